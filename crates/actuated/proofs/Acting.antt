@@ -1,15 +1,15 @@
 -- How the lines go on round by round, whatever the world is.
-use Rattle.std.proofs.Common.{◌≡◌, ℕ, zero, suc, ◌+◌, ◌*◌, ◌/◌, ◌<◌, ◌≤◌, cond, eqb, List, [], ◌∷◌, ◌++◌, Option, length, get_or, set, slice_index, refl, sym, ap, subst, ◌∙◌, inl, inr, arith, ne_eqb, length-set, get_or-set_same, get_or-set_other}
+use Rattle.std.proofs.Common.{◌≡◌, ℕ, zero, suc, ◌+◌, ◌*◌, ◌/◌, ◌<◌, ◌≤◌, cond, eqb, List, [], ◌∷◌, ◌++◌, length, get_or, set, slice_index, refl, sym, ap, subst, ◌∙◌, inl, inr, arith, ne_eqb, length-set, get_or-set_same, get_or-set_other}
 use Rattle.std.proofs.lemmas.Bool.{cases_eq, cases_lt, eq-eqb}
 use Rattle.std.proofs.lemmas.List.{get_or_append_left, get_or_default, get_or_past, get_or_push, length_push}
 use Rattle.std.proofs.lemmas.Nat.{div_below}
 use Rattle.std.proofs.Math.Nat.{div-lt_iff_lt-mul, mul-le-mul_right}
-use Rattle.control_flow.specs.Greens.{standing}
+use Rattle.control_flow.specs.Signs.{sign_at}
 use Rattle.control_flow.specs.declared.greens.Green.{Green}
 use Rattle.net_parts.specs.Numbers.{Net}
 use Rattle.net_parts.specs.Outline.{plan_at}
 use Rattle.net_simulator.specs.Flow.{Cumulative}
-use Rattle.net_simulator.specs.Worlds.{line_in, standing_by}
+use Rattle.net_simulator.specs.Worlds.{line_in, signs_by}
 use Rattle.road_net.specs.Network.{IsNetwork}
 use Rattle.signal_safety.specs.Rounds.{line_before}
 use Rattle.actuated.specs.ActRuns.{AllAct, IsNextBy, IsNextLine, first_line, shown_in}
@@ -19,6 +19,7 @@ use Rattle.actuated.specs.Rounds.{AreFirstLines, AreRenewed, IsReady, IsRenewed}
 use Rattle.actuated.specs.RunsSoFar.{AreNear, CountsBefore, HaveActed}
 use Rattle.actuated.proofs.ActStepLaws.{act-rounds, one-round}
 use Rattle.actuated.proofs.NearLaws.{calls-are}
+use Rattle.control_flow.specs.declared.greens.Sign.{Sign}
 
 -- ---- first lines, one after another
 
@@ -67,7 +68,7 @@ next-moved net p q s t node old older new newer a b c d next =
     subst (IsNextLine net q t node older) d (subst (λ (o : List Green). IsNextLine net q t node o new) c (subst (λ r. IsNextLine net q r node old new) b (subst (λ (x : ℕ → ℕ → Cumulative). IsNextLine net x s node old new) a next)))
 
 -- before the first round
-pub none-acted : (net : Net) (under : (ℕ → ℕ → Option (ℕ × ℕ)) → ℕ → ℕ → ℕ → Cumulative) (lines : List (List Green)) → AreFirstLines net (length net.node_names) lines → HaveActed net under 0 lines
+pub none-acted : (net : Net) (under : (ℕ → ℕ → Sign) → ℕ → ℕ → ℕ → Cumulative) (lines : List (List Green)) → AreFirstLines net (length net.node_names) lines → HaveActed net under 0 lines
 none-acted net under lines first = record {
   made = λ r n. [];
   acts = λ r n less below. absurd (omega arith);
@@ -77,13 +78,13 @@ none-acted net under lines first = record {
   shown = λ x n less. absurd (omega arith);
 }
 
-module _ (net : Net) (network : IsNetwork net) (under : (ℕ → ℕ → Option (ℕ × ℕ)) → ℕ → ℕ → ℕ → Cumulative) (counts : CountsBefore under) (r : ℕ) (lines renewed : List (List Green)) (near : List ℕ)
+module _ (net : Net) (network : IsNetwork net) (under : (ℕ → ℕ → Sign) → ℕ → ℕ → ℕ → Cumulative) (counts : CountsBefore under) (r : ℕ) (lines renewed : List (List Green)) (near : List ℕ)
     (a : HaveActed net under r lines) (are : AreRenewed net near (r * act_step net) (length net.node_names) lines renewed) where
   -- the renewed lines show the same before
-  pub same-before : (x n : ℕ) → x < r * act_step net → standing (line_in renewed n) x ≡ standing (line_in lines n) x
+  pub same-before : (x n : ℕ) → x < r * act_step net → sign_at (line_in renewed n) x ≡ sign_at (line_in lines n) x
   same-before x n less = elim (cases_lt n (length net.node_names)) [
     | inl below ↦ (are.renewed n below).past x less
-    | inr past ↦ ap (λ (l : List Green). standing l x) (get_or_past renewed n [] (omega (arith, are.count, a.count)) ∙ sym (get_or_past lines n [] (omega (arith, a.count))))
+    | inr past ↦ ap (λ (l : List Green). sign_at l x) (get_or_past renewed n [] (omega (arith, are.count, a.count)) ∙ sym (get_or_past lines n [] (omega (arith, a.count))))
   ]
 
   made : ℕ → ℕ → List Green
@@ -98,13 +99,13 @@ module _ (net : Net) (network : IsNetwork net) (under : (ℕ → ℕ → Option 
   made-now round n e = sym (ap (λ b. cond b (line_in renewed n) (a.made round n)) (eq-eqb round r e))
 
   shown-before : (x n : ℕ) → x < r * act_step net → shown_in net a.made x n ≡ shown_in net made x n
-  shown-before x n less = ap (λ (l : List Green). standing l x) (made-before (x / act_step net) n (div_below x (act_step net) r (act-rounds net network).some less))
+  shown-before x n less = ap (λ (l : List Green). sign_at l x) (made-before (x / act_step net) n (div_below x (act_step net) r (act-rounds net network).some less))
 
   line-before : (round n : ℕ) → round ≤ r → line_before (first_line net) a.made round n ≡ line_before (first_line net) made round n
   line-before zero n most = refl
   line-before (suc round) n most = made-before round n (omega arith)
 
-  module _ (sensed : AreNear net (under (standing_by (line_in lines)) (r * act_step net)) (r * act_step net) near) where
+  module _ (sensed : AreNear net (under (signs_by (line_in lines)) (r * act_step net)) (r * act_step net) near) where
     acts : AllAct net under made (r + 1)
     acts round n less below = elim (cases_lt round r) [
       | inl before ↦
@@ -116,23 +117,23 @@ module _ (net : Net) (network : IsNetwork net) (under : (ℕ → ℕ → Option 
       | inr at ↦
           let e : round ≡ r = omega arith in
           let second : r * act_step net ≡ round * act_step net = ap (λ k. k * act_step net) (sym e) in
-          let calls = calls-are net network (slice_index near) (under (standing_by (line_in lines)) (r * act_step net)) (r * act_step net) n below sensed in
-          let one : IsNextLine net (under (standing_by (line_in lines)) (r * act_step net)) (r * act_step net) n (line_in lines n) (line_in renewed n) =
+          let calls = calls-are net network (slice_index near) (under (signs_by (line_in lines)) (r * act_step net)) (r * act_step net) n below sensed in
+          let one : IsNextLine net (under (signs_by (line_in lines)) (r * act_step net)) (r * act_step net) n (line_in lines n) (line_in renewed n) =
           subst (λ (cs : List ℕ). IsNextBy net cs (r * act_step net) n (line_in lines n) (line_in renewed n)) calls (are.renewed n below).next in
-          next-moved net (under (standing_by (line_in lines)) (r * act_step net)) (under (shown_in net made) (round * act_step net)) (r * act_step net) (round * act_step net) n
+          next-moved net (under (signs_by (line_in lines)) (r * act_step net)) (under (shown_in net made) (round * act_step net)) (r * act_step net) (round * act_step net) n
           (line_in lines n) (line_before (first_line net) made round n) (line_in renewed n) (made round n)
-          (counts (standing_by (line_in lines)) (shown_in net made) (r * act_step net) (λ x k b. a.shown x k b ∙ shown-before x k b) ∙ ap (under (shown_in net made)) second)
+          (counts (signs_by (line_in lines)) (shown_in net made) (r * act_step net) (λ x k b. a.shown x k b ∙ shown-before x k b) ∙ ap (under (shown_in net made)) second)
           second (a.are n below ∙ ap (λ k. line_before (first_line net) a.made k n) (sym e) ∙ line-before round n (omega arith)) (made-now round n e) one
     ]
 
-    shown : (x n : ℕ) → x < (r + 1) * act_step net → standing (line_in renewed n) x ≡ shown_in net made x n
+    shown : (x n : ℕ) → x < (r + 1) * act_step net → sign_at (line_in renewed n) x ≡ shown_in net made x n
     shown x n less = elim (cases_lt (x / act_step net) r) [
       | inl earlier ↦
           let before : x < r * act_step net = (div-lt_iff_lt-mul {k = act_step net} {x = x} {y = r} (act-rounds net network).some).0 earlier in
           same-before x n before ∙ a.shown x n before ∙ shown-before x n before
       | inr last ↦
           let most = div_below x (act_step net) (r + 1) (act-rounds net network).some less in
-          ap (λ (l : List Green). standing l x) (made-now (x / act_step net) n (omega (arith, last, most)))
+          ap (λ (l : List Green). sign_at l x) (made-now (x / act_step net) n (omega (arith, last, most)))
     ]
 
     -- after a round more

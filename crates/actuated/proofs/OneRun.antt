@@ -1,12 +1,13 @@
 -- A network has one run under actuated control for what arrives at it.
-use Rattle.std.proofs.Common.{◌≡◌, ℕ, zero, suc, ◌+◌, ◌*◌, ◌/◌, ◌<◌, ◌≤◌, List, [], Option, length, map, refl, sym, ap, subst, ◌∙◌, inl, inr, arith}
+use Rattle.std.proofs.Common.{◌≡◌, ℕ, zero, suc, ◌+◌, ◌*◌, ◌/◌, ◌<◌, ◌≤◌, List, [], length, map, refl, sym, ap, subst, ◌∙◌, inl, inr, arith}
 use Rattle.std.specs.List.{range_with_len}
 use Rattle.std.proofs.lemmas.Bool.{cases_lt}
 use Rattle.std.proofs.lemmas.List.{ext_get_or}
 use Rattle.std.proofs.lemmas.List.FromFn.{get_or-map-range_with_len, length-map-range_with_len}
 use Rattle.std.proofs.lemmas.Nat.{div_below}
 use Rattle.std.proofs.lemmas.Option.{same_Some}
-use Rattle.control_flow.specs.Greens.{spliced, standing}
+use Rattle.control_flow.specs.Greens.{spliced}
+use Rattle.control_flow.specs.Signs.{sign_at}
 use Rattle.control_flow.specs.declared.greens.Green.{Green}
 use Rattle.net_parts.specs.Numbers.{Net}
 use Rattle.net_parts.specs.Outline.{plan_at}
@@ -22,6 +23,7 @@ use Rattle.actuated.specs.Calls.{act_line}
 use Rattle.actuated.specs.RunsSoFar.{CountsAtNodes}
 use Rattle.actuated.proofs.ActStepLaws.{act-rounds}
 use Rattle.audit.specs.declared.line_runs.LineRun.{LineRun}
+use Rattle.control_flow.specs.declared.greens.Sign.{Sign}
 
 -- a line has one next line
 next-one : (net : Net) (n node : ℕ) (past seen : ℕ → ℕ → Cumulative) → past ≡ seen → (old older next other : List Green) → old ≡ older
@@ -32,7 +34,7 @@ next-one net n node past seen same_past old older next other same_old is also =
     let head : moved.head ≡ also.head = same_Some moved.head also.head (sym moved.at ∙ also.at) in
     moved.is ∙ ap (λ (h : Head). spliced older (act_line (plan_at net node) h (calls_at net seen n node) (n + net.run.look))) head ∙ sym also.is
 
-module _ (net : Net) (network : IsNetwork net) (under : (ℕ → ℕ → Option (ℕ × ℕ)) → ℕ → ℕ → ℕ → Cumulative) (counts : CountsAtNodes net under) (made other : ℕ → ℕ → List Green) where
+module _ (net : Net) (network : IsNetwork net) (under : (ℕ → ℕ → Sign) → ℕ → ℕ → ℕ → Cumulative) (counts : CountsAtNodes net under) (made other : ℕ → ℕ → List Green) where
   -- the lines that were made before a round are the same
   abbrev pub SameBefore : ℕ → Type 0
   SameBefore r = (s n : ℕ) → s < r → n < length net.node_names → made s n ≡ other s n
@@ -44,7 +46,7 @@ module _ (net : Net) (network : IsNetwork net) (under : (ℕ → ℕ → Option 
   pub past-same : (r : ℕ) → SameBefore r → under (shown_in net made) (r * act_step net) ≡ under (shown_in net other) (r * act_step net)
   past-same r before =
       counts (shown_in net made) (shown_in net other) (r * act_step net)
-      (λ x n less below. ap (λ (l : List Green). standing l x) (before (x / act_step net) n (div_below x (act_step net) r (act-rounds net network).some less) below))
+      (λ x n less below. ap (λ (l : List Green). sign_at l x) (before (x / act_step net) n (div_below x (act_step net) r (act-rounds net network).some less) below))
 
   pub same-before : (rounds : ℕ) → AllAct net under made rounds → AllAct net under other rounds → (r : ℕ) → r ≤ rounds → SameBefore r
   same-before rounds acts also zero most s n less below = absurd (omega (arith, less))

@@ -1,7 +1,8 @@
 -- A run of the controller: what each node makes of its line in each round, by what it senses then, and the record of the run.
-use Rattle.std.specs.Prelude.{◌≡◌, ℕ, ◌+◌, ◌*◌, ◌<◌, List, Option, Some, length, map}
+use Rattle.std.specs.Prelude.{◌≡◌, ℕ, ◌+◌, ◌*◌, ◌<◌, List, Some, length, map}
 use Rattle.std.specs.List.{range_with_len}
-use Rattle.control_flow.specs.Greens.{head_at, spliced, standing}
+use Rattle.control_flow.specs.Greens.{head_at, spliced}
+use Rattle.control_flow.specs.Signs.{sign_at}
 use Rattle.control_flow.specs.Timelines.{first_head, rotation_of}
 use Rattle.control_flow.specs.declared.greens.Green.{Green}
 use Rattle.switch_rules.specs.declared.Head.{Head}
@@ -15,6 +16,7 @@ use Rattle.signal_safety.specs.Rounds.{line_before, shown_every}
 use Rattle.audit.specs.declared.line_runs.LineRun.{LineRun}
 use Rattle.actuated.specs.ActSteps.{act_rounds, act_step}
 use Rattle.actuated.specs.Calls.{act_line, calling}
+use Rattle.control_flow.specs.declared.greens.Sign.{Sign}
 
 -- Below, `made round node` is the line of a node in a round, and `under shown n` what passed the links in the first n seconds where
 -- the signals show this: in the world, `cumulative_under net arriving`.
@@ -37,18 +39,18 @@ pub record IsNextBy (net : Net) (calls : List ℕ) (n node : ℕ) (old next : Li
 abbrev pub IsNextLine : Net → (ℕ → ℕ → Cumulative) → ℕ → ℕ → List Green → List Green → Type 0
 IsNextLine net past n node old next = IsNextBy net (calls_at net past n node) n node old next
 
--- which phase is green in a second at a node, and since when, by the lines that the nodes make in the controller's rounds
-abbrev pub shown_in : Net → (ℕ → ℕ → List Green) → ℕ → ℕ → Option (ℕ × ℕ)
+-- the sign of a node in a second, by the lines that the nodes make in the controller's rounds
+abbrev pub shown_in : Net → (ℕ → ℕ → List Green) → ℕ → ℕ → Sign
 shown_in net = shown_every (act_step net)
 
 -- a node acts in a round: its line becomes the next one when the round begins
-abbrev pub Acts : Net → ((ℕ → ℕ → Option (ℕ × ℕ)) → ℕ → ℕ → ℕ → Cumulative) → (ℕ → ℕ → List Green) → ℕ → ℕ → Type 0
+abbrev pub Acts : Net → ((ℕ → ℕ → Sign) → ℕ → ℕ → ℕ → Cumulative) → (ℕ → ℕ → List Green) → ℕ → ℕ → Type 0
 Acts net under made round node =
     IsNextLine net (under (shown_in net made) (round * act_step net)) (round * act_step net) node
     (line_before (first_line net) made round node) (made round node)
 
 -- each node of the network acts in each of the first `rounds` rounds
-abbrev pub AllAct : Net → ((ℕ → ℕ → Option (ℕ × ℕ)) → ℕ → ℕ → ℕ → Cumulative) → (ℕ → ℕ → List Green) → ℕ → Type 0
+abbrev pub AllAct : Net → ((ℕ → ℕ → Sign) → ℕ → ℕ → ℕ → Cumulative) → (ℕ → ℕ → List Green) → ℕ → Type 0
 AllAct net under made rounds = (round node : ℕ) → round < rounds → node < length net.node_names → Acts net under made round node
 
 -- what passes the links until the last round is over
@@ -68,8 +70,8 @@ pub record IsActRun (net : Net) (arriving : ℕ → ℕ → ℕ) (run : LineRun)
   pub made : ℕ → ℕ → List Green
   pub by : IsActRunBy net arriving made run
 
--- in each second of the run the last lines show the greens, with the same begin, by which the world moved
-abbrev pub ShowsGreens : Net → (ℕ → ℕ → List Green) → LineRun → Type 0
-ShowsGreens net made run =
+-- in each second of the run the last lines show the signs by which the world moved
+abbrev pub ShowsSigns : Net → (ℕ → ℕ → List Green) → LineRun → Type 0
+ShowsSigns net made run =
     (second node : ℕ) → second < end_of_run net → node < length net.node_names
-    → standing (line_in run.timelines node) second ≡ shown_in net made second node
+    → sign_at (line_in run.timelines node) second ≡ shown_in net made second node

@@ -1,7 +1,8 @@
 -- How the lines of a run go on round by round, whatever the world is that the nodes sense.
 use Rattle.std.specs.Prelude.{◌≡◌, ℕ, ◌+◌, ◌<◌, ◌≤◌, List, length, slice_index}
 use Rattle.net_parts.specs.Limits.{most_of_all}
-use Rattle.control_flow.specs.Greens.{BeginBy, IsLawful, end_of, standing}
+use Rattle.control_flow.specs.Greens.{BeginBy, IsLawful, end_of}
+use Rattle.control_flow.specs.Signs.{sign_at}
 use Rattle.control_flow.specs.declared.greens.Green.{Green}
 use Rattle.net_parts.specs.Numbers.{Net}
 use Rattle.net_parts.specs.Outline.{plan_at}
@@ -28,7 +29,7 @@ pub record AreFirstLines (net : Net) (nodes : ℕ) (lines : List (List Green)) :
 -- and is ready for the next round of the controller
 pub record IsRenewed (net : Net) (calls : List ℕ) (second node : ℕ) (old new : List Green) : Type 0 where
   pub next : IsNextBy net calls second node old new
-  pub past : (x : ℕ) → x < second → standing new x ≡ standing old x
+  pub past : (x : ℕ) → x < second → sign_at new x ≡ sign_at old x
   pub ready : IsReady (plan_at net node) (second + act_step net) new
 
 -- the first nodes have renewed their lines by what is near on each link, and the others have the old ones

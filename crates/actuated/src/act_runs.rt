@@ -9,7 +9,7 @@ ghost use Rattle.signal_safety.specs.Safe.{IsSafe};
 ghost use Rattle.audit.specs.LineRuns.{sheet_of};
 ghost use Rattle.audit.specs.SheetTexts.{HasShape};
 ghost use Rattle.audit.specs.declared.line_runs.LineRun as spec;
-ghost use Rattle.actuated.specs.ActRuns.{IsActRun, ShowsGreens};
+ghost use Rattle.actuated.specs.ActRuns.{IsActRun, ShowsSigns};
 ghost use Rattle.actuated.specs.ActSteps as steps;
 ghost use Rattle.actuated.specs.RunsSoFar.{HavePlayed};
 
@@ -30,8 +30,8 @@ use std::alloc::{AllocError, Global};
 /// the controller begins, of `act_step` seconds, the timeline of each node goes on by what the node senses then; and then
 /// the world moves by the timelines up to the next one.
 ///
-/// All timelines are lawful, and the network is safe. The last timelines show the greens, with the same begin, by
-/// which the world moved. The totals are what the world shows under the last timelines, and what entered has left or
+/// All timelines are lawful, and the network is safe. The last timelines show the signs by which the world
+/// moved. The totals are what the world shows under the last timelines, and what entered has left or
 /// is on the links.
 ///
 /// `Err`: out of memory.
@@ -47,8 +47,8 @@ pub fn run_actuated(
     ensures shape { IfOk result (λ run. HasShape net.now (sheet_of run)) }
     ensures lawful { IfOk result (λ run. AreLawful net.now run.timelines) }
     ensures safe { IfOk result (λ run. IsSafe net.now (line_in run.timelines)) }
-    ensures greens { IfOk result (λ run. (is : IsActRun net.now (arriving_of arrivals.now) run)
-        → ShowsGreens net.now is.made run) }
+    ensures signs { IfOk result (λ run. (is : IsActRun net.now (arriving_of arrivals.now) run)
+        → ShowsSigns net.now is.made run) }
     ensures clean { IfOk result (λ run. IsClean net.now (arriving_of arrivals.now) (sheet_of run)) }
     ensures whole { IfOk result (λ run. IsBalanced run.totals) }
 {

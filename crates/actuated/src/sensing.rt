@@ -3,7 +3,7 @@
 ghost use Rattle.std.specs.Prelude.{◌≡◌, ℕ, List, length};
 ghost use Rattle.control_flow.specs.declared.greens.Green.{Green};
 ghost use Rattle.net_simulator.specs.Flow.{cumulative_under};
-ghost use Rattle.net_simulator.specs.Worlds.{IsWorldOf, Stands, standing_by};
+ghost use Rattle.net_simulator.specs.Worlds.{IsWorldOf, Stands, signs_by};
 ghost use Rattle.actuated.specs.Rounds.{AreAmounts};
 ghost use Rattle.actuated.specs.RunsSoFar.{AreNear};
 
@@ -16,8 +16,8 @@ pub(crate) fn sense_near(near: &mut [u32], net: &Network, world: &World)
     requires world { IsWorldOf net.now world.now }
     ensures amounts { AreAmounts net.now near.new }
     ensures near { (arriving : ℕ → ℕ → ℕ) (lines : ℕ → List Green)
-        → Stands net.now arriving (standing_by lines) world.now
-        → AreNear net.now (cumulative_under net.now arriving (standing_by lines) world.now.second)
+        → Stands net.now arriving (signs_by lines) world.now
+        → AreNear net.now (cumulative_under net.now arriving (signs_by lines) world.now.second)
         world.now.second near.new }
 {
     for link in 0..net.links() {

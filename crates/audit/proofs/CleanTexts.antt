@@ -1,5 +1,5 @@
 -- The text of records that tell a clean sheet is a clean text.
-use Rattle.std.proofs.Common.{ℕ, ◌*◌, ◌<◌, ◌≤◌, List, [], ◌∷◌, ◌++◌, length, All, nat_lt, Option, sym, ◌∙◌, subst, inl, inr, arith}
+use Rattle.std.proofs.Common.{ℕ, ◌*◌, ◌<◌, ◌≤◌, List, [], ◌∷◌, ◌++◌, length, All, nat_lt, sym, ◌∙◌, subst, inl, inr, arith}
 use Rattle.std.proofs.lemmas.Bool.{cases_Bool, ltb-true}
 use Rattle.std.proofs.lemmas.List.{length-map}
 use Rattle.std.proofs.lemmas.List.Elements.{All-cons, All-head, All-nil, All-tail}
@@ -14,7 +14,7 @@ use Rattle.control_flow.specs.Greens.{IsGreen}
 use Rattle.control_flow.specs.declared.greens.Green.{Green}
 use Rattle.net_simulator.specs.Flow.{Cumulative}
 use Rattle.net_simulator.specs.Sums.{AreFew, delay, end_of_run, link_totals, totals}
-use Rattle.net_simulator.specs.Worlds.{line_in, standing_by}
+use Rattle.net_simulator.specs.Worlds.{line_in, signs_by}
 use Rattle.net_simulator.proofs.Conserving.{left-entered}
 use Rattle.net_simulator.proofs.Passing.{delay-small, entered-small, gone-most, on-road-most, sound-at}
 use Rattle.net_simulator.proofs.Sums.{total-of}
@@ -28,6 +28,7 @@ use Rattle.world_records.specs.Records.{header, records_text}
 use Rattle.audit.specs.Audits.{IsClean, IsCleanText}
 use Rattle.net_simulator.specs.Shown.{cumulative_of_lines}
 use Rattle.audit.proofs.CutLaws.{cut-clean, cut-line}
+use Rattle.control_flow.specs.declared.greens.Sign.{Sign}
 
 -- the greens of a plan that begin before a second can be told
 parsed-greens : (plan : List Phase) (end : ℕ) → IsPlan plan → end ≤ 18000 → (rows : List Green) → All (IsGreen plan) rows → All IsToldGreen (begun_before end rows)
@@ -50,8 +51,8 @@ parsed-greens plan end p early (row ∷ rows) greens =
 
 -- what the world has counted at the end of the run can be told
 module _ (net : Net) (network : IsNetwork net) (arriving : ℕ → ℕ → ℕ) (few : AreFew net arriving) (lines : List (List Green)) where
-  abbrev shown : ℕ → ℕ → Option (ℕ × ℕ)
-  shown = standing_by (line_in lines)
+  abbrev shown : ℕ → ℕ → Sign
+  shown = signs_by (line_in lines)
 
   abbrev end : ℕ
   end = end_of_run net
@@ -107,5 +108,5 @@ module _ (net : Net) (network : IsNetwork net) (arriving : ℕ → ℕ → ℕ) 
         sheet = cut_at (end_of_run net) s;
         is_text = text;
         only = λ other is. one-sheet net _ other (cut_at (end_of_run net) s) is text;
-        clean = cut-clean net arriving s clean;
+        clean = cut-clean net network arriving s clean;
       }

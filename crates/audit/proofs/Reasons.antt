@@ -12,7 +12,7 @@ use Rattle.control_flow.proofs.OrderLaws.{order-lawful}
 use Rattle.net_simulator.specs.Counts.{counts_at}
 use Rattle.net_simulator.specs.Flow.{cumulative_under}
 use Rattle.net_simulator.specs.Sums.{end_of_run, link_totals, totals}
-use Rattle.net_simulator.specs.Worlds.{Stands, WorldState, line_in, standing_by}
+use Rattle.net_simulator.specs.Worlds.{Stands, WorldState, line_in, signs_by}
 use Rattle.signal_safety.proofs.Lines.{plan-is}
 use Rattle.audit.specs.declared.sheet.Sheet.{Sheet}
 use Rattle.audit.specs.Audits.{AllRows, AreLawful, FollowsAt, IsClean, IsGreenAt, IsLinkShown, IsWhy}
@@ -56,12 +56,12 @@ module _ (net : Net) (arriving : ℕ → ℕ → ℕ) (s : Sheet) where
   bad why is = ((λ e. absurd (cc)), (λ clean. absurd (refutes why is clean)))
 
   -- what a world has counted that stands at the end of the run under the lines of the sheet
-  module _ (w : WorldState) (stands : Stands net arriving (standing_by (line_in s.lines)) w) (at : w.second ≡ end_of_run net) where
+  module _ (w : WorldState) (stands : Stands net arriving (signs_by (line_in s.lines)) w) (at : w.second ≡ end_of_run net) where
     counted : (l : ℕ) → l < length net.link_names → counts_at w.counts l ≡ link_shown net arriving s.lines l
-    counted l h = subst (λ x. counts_at w.counts l ≡ link_totals net (cumulative_under net arriving (standing_by (line_in s.lines)) x) x l) at (stands.counts l h)
+    counted l h = subst (λ x. counts_at w.counts l ≡ link_totals net (cumulative_under net arriving (signs_by (line_in s.lines)) x) x l) at (stands.counts l h)
 
     counted-all : w.totals ≡ all_shown net arriving s.lines
-    counted-all = subst (λ x. w.totals ≡ totals net arriving (cumulative_under net arriving (standing_by (line_in s.lines)) x) x) at stands.totals
+    counted-all = subst (λ x. w.totals ≡ totals net arriving (cumulative_under net arriving (signs_by (line_in s.lines)) x) x) at stands.totals
 
     pub links-shown : ((l : ℕ) → l < length net.link_names → counts_at s.links l ≡ counts_at w.counts l) → (l : ℕ) → l < length net.link_names → IsLinkShown net arriving s l
     links-shown same l h = same l h ∙ counted l h

@@ -1,7 +1,7 @@
 -- What the commands write that run a network under other controllers than the planners, or under several.
 use Rattle.std.specs.Prelude.{◌≡◌, ℕ, ◌+◌, ◌-◌, ◌*◌, ◌/◌, ◌<◌, List, ◌++◌, Contains, codes, length, map}
 use Rattle.std.specs.List.{AllZip, concat, range_with_len}
-use Rattle.actuated.specs.ActRuns.{IsActRun, ShowsGreens}
+use Rattle.actuated.specs.ActRuns.{IsActRun, ShowsSigns}
 use Rattle.actuated.specs.Reports.{act_text}
 use Rattle.audit.specs.declared.line_runs.LineRun.{LineRun}
 use Rattle.net_parts.specs.Limits.{most_of_all}
@@ -24,12 +24,12 @@ use Rattle.commands.specs.Headline.{IsRunOf}
 use Rattle.commands.specs.Summary.{scale_line, totals_line}
 
 -- The run of a network under actuated control, where this enters each link in each second: all last lines are lawful, the network is
--- safe under them, and in each second of the run they show the greens, with the same begin, by which the world moved.
+-- safe under them, and in each second of the run they show the signs by which the world moved.
 pub record IsActuatedRun (net : Net) (arriving : ℕ → ℕ → ℕ) (record_of_run : LineRun) : Type 0 where
   pub run : IsActRun net arriving record_of_run
   pub lawful : AreLawful net record_of_run.timelines
   pub safe : IsSafe net (line_in record_of_run.timelines)
-  pub greens : ShowsGreens net run.made record_of_run
+  pub signs : ShowsSigns net run.made record_of_run
 
 -- the bytes are the report of such a run, and an audit finds nothing in them
 pub record IsActuatedReport (net : Net) (arriving : ℕ → ℕ → ℕ) (bytes : List ℕ) : Type 0 where

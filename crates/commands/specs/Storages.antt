@@ -1,10 +1,10 @@
 -- What `spill` writes: what two controllers come to where links hold so much and no more.
-use Rattle.std.specs.Prelude.{◌≡◌, ℕ, List, ◌++◌, Option, codes, slice_index}
+use Rattle.std.specs.Prelude.{◌≡◌, ℕ, List, ◌++◌, codes, slice_index}
 use Rattle.audit.specs.Audits.{AreLawful}
 use Rattle.histories.specs.Histories.{turn_order}
 use Rattle.net_parts.specs.Numbers.{Net}
 use Rattle.net_simulator.specs.Sums.{end_of_run}
-use Rattle.net_simulator.specs.Worlds.{line_in, standing_by}
+use Rattle.net_simulator.specs.Worlds.{line_in, signs_by}
 use Rattle.runs.specs.declared.records.RunRecord.{RunRecord}
 use Rattle.signal_safety.specs.Safe.{IsSafe}
 use Rattle.spillback_control.specs.SpillRuns.{IsActuatedIn, LastLinesShow, last_lines}
@@ -13,14 +13,15 @@ use Rattle.spillback_world.specs.Storage.{cumulative_in}
 use Rattle.spillback_world.specs.declared.totals.SpillTotals.{SpillTotals}
 use Rattle.commands.specs.Headline.{IsRunOf}
 use Rattle.commands.specs.Summary.{spilled_line}
+use Rattle.control_flow.specs.declared.greens.Sign.{Sign}
 
 -- what is counted until the run ends where the signals show this and each link holds what the store says and no more
-abbrev pub spilled_under : Net → (ℕ → ℕ → ℕ) → List ℕ → (ℕ → ℕ → Option (ℕ × ℕ)) → SpillTotals
+abbrev pub spilled_under : Net → (ℕ → ℕ → ℕ) → List ℕ → (ℕ → ℕ → Sign) → SpillTotals
 spilled_under net arriving store shown =
     stored_totals net arriving (cumulative_in net arriving (slice_index store) shown (end_of_run net)) (end_of_run net)
 
 -- The bytes are two lines: what is counted under the last lines of the run of the turn order, and under actuated control that
--- senses the links as they then are: its last lines are lawful and safe, and show the greens by which that world moved.
+-- senses the links as they then are: its last lines are lawful and safe, and show the signs by which that world moved.
 pub record IsSpillTable (net : Net) (arriving : ℕ → ℕ → ℕ) (store : List ℕ) (bytes : List ℕ) : Type 0 where
   pub run : RunRecord
   pub runs : IsRunOf net arriving (turn_order net) run
@@ -28,5 +29,5 @@ pub record IsSpillTable (net : Net) (arriving : ℕ → ℕ → ℕ) (store : Li
   pub are_of_calls : IsActuatedIn net arriving (slice_index store) of_calls
   pub lawful : AreLawful net (last_lines net are_of_calls.made)
   pub safe : IsSafe net (line_in (last_lines net are_of_calls.made))
-  pub greens : LastLinesShow net are_of_calls.made
-  pub lines : bytes ≡ spilled_line (codes "planned") (spilled_under net arriving store (standing_by (line_in run.timelines))) ++ spilled_line (codes "actuated") of_calls
+  pub signs : LastLinesShow net are_of_calls.made
+  pub lines : bytes ≡ spilled_line (codes "planned") (spilled_under net arriving store (signs_by (line_in run.timelines))) ++ spilled_line (codes "actuated") of_calls

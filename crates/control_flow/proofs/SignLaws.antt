@@ -35,6 +35,16 @@ pub change-off : (before : Option ℕ) (j : ℕ) → on_of (change_from before j
 change-off None j = refl
 change-off (Some k) j = refl
 
+-- the same row before lines that show the same greens after it
+pub on-row : (before : Option ℕ) (r : Green) (rs ss : List Green) (second : ℕ) → on_of (sign_after (Some r.phase) rs second) ≡ on_of (sign_after (Some r.phase) ss second) → on_of (sign_after before (r ∷ rs) second) ≡ on_of (sign_after before (r ∷ ss) second)
+on-row before r rs ss second e = elim (cases_lt second r.from) [
+  | inl early ↦ ap on_of (before-row before r rs second early ∙ sym (before-row before r ss second early))
+  | inr begun ↦ elim (cases_lt second r.to) [
+      | inl within ↦ ap on_of (within-row before r rs second begun within ∙ sym (within-row before r ss second begun within))
+      | inr over ↦ ap on_of (after-row before r rs second begun over) ∙ e ∙ sym (ap on_of (after-row before r ss second begun over))
+    ]
+]
+
 -- by the place of the first row that ends after a second
 
 pub sign-past : (before : Option ℕ) (rows : List Green) (second i : ℕ) → IsInOrder rows → length rows ≤ i → ((k : ℕ) → k < i → (row_at rows k).to ≤ second) → sign_after before rows second ≡ signs.Dark

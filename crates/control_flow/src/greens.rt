@@ -33,15 +33,15 @@ pub enum Colour {
 
 /// What a signal shows at a second.
 ///
-/// docs/RULES.md, "Timeline".
+/// docs/RULES.md, "Signs".
 #[derive(Debug, Clone, Copy, PartialEq, Eq)]
 pub enum Sign {
+    /// No green has begun yet, or the last one is over.
+    Dark,
     /// A phase is green, since this second without a break.
     On { phase: u8, since: u32 },
     /// The green of one phase is over, and the next one, of another phase or the same, has not begun.
     Change { from: u8, to: u8 },
-    /// No green has begun yet, or the last one is over.
-    Dark,
 }
 
 /// The greens of a signal, one after another: each ends after its begin, and begins no earlier than the one before it

@@ -114,10 +114,10 @@ pub fn green_at(line: &Timeline, second: u32) -> Option<Green>
     if row.from <= second { Some(row) } else { None }
 }
 
-/// What the signal shows at a second: a phase that is green, or a change from one green to the next one, or nothing. The
-/// time does not grow with what is past: it searches by halves.
+/// The sign of the signal at a second: a phase that is on, a change from one row to the next, or that it is dark. The time
+/// does not grow with what is past: it searches by halves.
 ///
-/// docs/RULES.md, "Timeline".
+/// docs/RULES.md, "Signs".
 pub fn sign_at(line: &Timeline, second: u32) -> Sign
     ensures exact { result ≡ sign.sign_at line.now second }
     ensures order { IsInOrder line.now }
@@ -129,7 +129,7 @@ pub fn sign_at(line: &Timeline, second: u32) -> Sign
     }
 }
 
-/// What is shown at a second by which so many rows have ended.
+/// The sign of a second by which so many rows have ended.
 fn sign_by(rows: &[Green], ended: usize, second: u32) -> Sign
     requires order { IsInOrder rows.now }
     requires ended { (k : ℕ) → k < ended → (row_at rows.now k).to ≤ second }
@@ -152,7 +152,7 @@ fn sign_by(rows: &[Green], ended: usize, second: u32) -> Sign
     }
 }
 
-/// What is shown while a row is green.
+/// The sign of a row that covers a second.
 fn on(row: &Green) -> Sign
     ensures { result ≡ signs.On row.now.phase row.now.from }
 {

@@ -8,7 +8,7 @@ ghost use Rattle.commands.specs.Outcome.{Outcome};
 ghost use Rattle.commands.specs.Storages.{IsSpillTable, spilled_under};
 ghost use Rattle.commands.specs.Summary.{spilled_line};
 ghost use Rattle.histories.specs.Histories.{turn_order};
-ghost use Rattle.net_simulator.specs.Worlds.{line_in, standing_by};
+ghost use Rattle.net_simulator.specs.Worlds.{line_in, signs_by};
 ghost use Rattle.runs.specs.declared.records.RunRecord.{RunRecord};
 
 use arrivals::Arrivals;
@@ -32,7 +32,7 @@ fn planned_totals(
     requires store { length store.now ≡ length net.now.link_names }
     ensures { IfOk result (λ t. (run : RunRecord)
         × IsRunOf net.now (arriving_of arrivals.now) (turn_order net.now) run
-        × (t ≡ spilled_under net.now (arriving_of arrivals.now) store.now (standing_by (line_in run.timelines)))) }
+        × (t ≡ spilled_under net.now (arriving_of arrivals.now) store.now (signs_by (line_in run.timelines)))) }
 {
     let run = run_of_turns(alloc, net, arrivals)?;
     let lines = Lines {

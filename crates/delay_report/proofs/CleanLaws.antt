@@ -17,7 +17,7 @@ use Rattle.road_net.specs.Network.{IsNetwork}
 use Rattle.net_simulator.specs.Counts.{counts_at, no_totals}
 use Rattle.net_simulator.specs.Flow.{Cumulative}
 use Rattle.net_simulator.specs.Sums.{AreFew, end_of_run, link_totals, totals}
-use Rattle.net_simulator.specs.Worlds.{line_in, standing_by}
+use Rattle.net_simulator.specs.Worlds.{line_in, signs_by}
 use Rattle.schedule_meaning.specs.declared.planners.Answer.{Answer}
 use Rattle.schedule_meaning.specs.declared.planners.Answer.TheVariants.{Plan, NoPlan}
 use Rattle.runs.specs.Promises.{IsKeptRun}
@@ -61,7 +61,7 @@ module _ (net : Net) (network : IsNetwork net) (arriving : ℕ → ℕ → ℕ) 
 
   -- the world moved as the last lines show
   same-past : cumulative_by net arriving made end ≡ cumulative_of_lines net arriving run.timelines
-  same-past = sym (past-at-nodes net network arriving (standing_by (line_in run.timelines)) (shown_by net made) end (λ x node before below. kept.kept.greens x node before below))
+  same-past = sym (past-at-nodes net network arriving (signs_by (line_in run.timelines)) (shown_by net made) end (λ x node before below. kept.kept.signs x node before below))
 
   counted : (l : ℕ) → l < length net.link_names → counts_at run.links l ≡ link_totals net (cumulative_by net arriving made end) end l
   counted l below = ap (λ links. counts_at links l) kept.run.by.links ∙ get_or-map-range_with_len (link_totals net (cumulative_by net arriving made end) end) 0 (length net.link_names) l l no_totals below (omega arith)

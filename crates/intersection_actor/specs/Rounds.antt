@@ -3,7 +3,8 @@ use Rattle.std.specs.Prelude.{◌≡◌, ℕ, ◌+◌, ◌*◌, ◌<◌, ◌≤�
 use Rattle.net_parts.specs.Limits.{most_seconds}
 use Rattle.switch_rules.specs.Sequences.{AreNextServings}
 use Rattle.switch_rules.specs.declared.Head.{Head}
-use Rattle.control_flow.specs.Greens.{BeginBy, IsLawful, colour_at, end_of, standing}
+use Rattle.control_flow.specs.Greens.{BeginBy, IsLawful, colour_at, end_of}
+use Rattle.control_flow.specs.Signs.{sign_at}
 use Rattle.control_flow.specs.Timelines.{rotation_of}
 pub use Rattle.control_flow.specs.Timelines.{first_head}
 use Rattle.net_parts.specs.Numbers.{Net}
@@ -75,11 +76,11 @@ pub record IsCommitted (net : Net) (old new : Acting) : Type 0 where
     served = made.served;
   }
 
--- What a commit keeps: in every second before the round, the same phase is green in the new line as in the old one, since the
--- same second, and every phase shows the same colour. The new line ends after the begin of the next round; and the versions
--- that were used are those of the links on which the node hears, in their order.
+-- What a commit keeps: in every second before the round the new line shows the same sign as the old one, and every phase the
+-- same colour. The new line ends after the begin of the next round; and the versions that were used are those of the links on
+-- which the node hears, in their order.
 pub record KeepsPast (net : Net) (old new : Acting) : Type 0 where
-  pub past : (second : ℕ) → second < old.sensed.now → standing new.line second ≡ standing old.line second
+  pub past : (second : ℕ) → second < old.sensed.now → sign_at new.line second ≡ sign_at old.line second
   pub colours : (k second : ℕ) → second < old.sensed.now → colour_at (plan_at net old.node) new.line k second ≡ colour_at (plan_at net old.node) old.line k second
   pub later : (old.round + 1) * net.run.step < end_of new.line
   pub used : map (λ (u : Used). u.link) (used_of old.heard) ≡ heard_links net old.node

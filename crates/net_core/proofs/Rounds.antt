@@ -12,7 +12,7 @@ use Rattle.intersection_actor.specs.declared.records.PlanRecord.{PlanRecord}
 use Rattle.net_parts.specs.Numbers.{Net}
 use Rattle.net_simulator.specs.Flow.{cumulative_under}
 use Rattle.net_simulator.specs.Senses.{sense}
-use Rattle.net_simulator.specs.Worlds.{IsWorldOf, WorldState, Stands, standing_by}
+use Rattle.net_simulator.specs.Worlds.{IsWorldOf, WorldState, Stands, signs_by}
 use Rattle.road_net.specs.Network.{IsNetwork, heard_links}
 use Rattle.runs.specs.Runs.{line_before}
 use Rattle.runs.proofs.Agree.{SameBefore}
@@ -38,19 +38,19 @@ module _ (net : Net) (network : IsNetwork net) (arrivals : Amounts) (history : L
     abbrev pub lines : ℕ → List Green
     lines = line_before net b.made round
 
-    pub begin-stands : Stands net (arriving_of arrivals) (standing_by lines) world
+    pub begin-stands : Stands net (arriving_of arrivals) (signs_by lines) world
     begin-stands = before-stands net network (arriving_of arrivals) round b.heard b.made (let less = b.below in omega arith) b.running.commits world b.running.second b.running.stands
 
     abbrev begun-way : Begun net network round history
     begun-way = record { early = history; part = []; whole = sym (append-nil history); rounds_done = b.rounds_done; within = λ n. omega arith; most = (let less = b.below in omega arith); over = λ e. refl }
 
     module _ (old new : Acting) (is : (d : Acting) → get_or actors i d ≡ old) (of_new : IsOf net new)
-        (settles : Settles net (reading (heard_links net old.node)) (begun net round (sense net (cumulative_under net (arriving_of arrivals) (standing_by lines) world.second) world.second i) old) new) where
+        (settles : Settles net (reading (heard_links net old.node)) (begun net round (sense net (cumulative_under net (arriving_of arrivals) (signs_by lines) world.second) world.second i) old) new) where
       rests : Rests net b.made round i old
       rests = subst (Rests net b.made round i) (is old) (begin-rests old)
 
       mid : Acting
-      mid = begun net round (sense net (cumulative_under net (arriving_of arrivals) (standing_by lines) world.second) world.second i) old
+      mid = begun net round (sense net (cumulative_under net (arriving_of arrivals) (signs_by lines) world.second) world.second i) old
 
       listens : (L : List ℕ) → heard_links net i ≡ L → Listens net arrivals b.heard b.made round 0 i mid
       unfolding mid

@@ -4,7 +4,7 @@ use Rattle.std.specs.Global.{Vec}
 use Rattle.std.specs.Prelude.{Contains, unwrap_or}
 use Rattle.std.proofs.lemmas.Bool.{cases_eq, cases_lt}
 use Rattle.std.proofs.lemmas.Nat.{div_below}
-use Rattle.control_flow.specs.Greens.{standing}
+use Rattle.control_flow.specs.Signs.{sign_at}
 use Rattle.std.proofs.lemmas.List.{get_or_append_left, length_push}
 use Rattle.std.proofs.lemmas.List.Elements.{Contains-append_left, Contains-push}
 use Rattle.arrivals.specs.Amounts.{Amounts, arriving_of}
@@ -197,7 +197,7 @@ module _ (net : Net) (network : IsNetwork net) (arrivals : Amounts) (heard : ℕ
         ])
 
     shown-same : (x m : ℕ) → x < round * net.run.step → shown_by net made x m ≡ shown_by net committed x m
-    shown-same x m less = ap (λ (c : Commitment). standing c.line x) (sym (put-round made round n c (x / net.run.step) m (λ e. let z = div_below x net.run.step round network.outline.run.step.0 less in omega arith)))
+    shown-same x m less = ap (λ (c : Commitment). sign_at c.line x) (sym (put-round made round n c (x / net.run.step) m (λ e. let z = div_below x net.run.step round network.outline.run.step.0 less in omega arith)))
 
     pub commit-on : IsRunning net arrivals heard committed p round boards world plans
     commit-on = record {

@@ -19,7 +19,7 @@ use Rattle.intersection_actor.specs.declared.records.Want.TheVariants.{Read, Com
 use Rattle.net_parts.specs.Numbers.{Net}
 use Rattle.net_simulator.specs.Flow.{cumulative_under}
 use Rattle.net_simulator.specs.Senses.{sense}
-use Rattle.net_simulator.specs.Worlds.{IsWorldOf, WorldState, Stands, standing_by}
+use Rattle.net_simulator.specs.Worlds.{IsWorldOf, WorldState, Stands, signs_by}
 use Rattle.outflow.specs.Outflow.{departures, told_forecast}
 use Rattle.road_net.specs.Network.{IsNetwork, heard_links, told_links}
 use Rattle.runs.specs.Runs.{line_before}
@@ -66,8 +66,8 @@ module _ (net : Net) (network : IsNetwork net) (arrivals : Amounts) (p : Parts) 
     world-at enter = begin-world net network arrivals p.history.items p.round p.boards.items p.world p.plans p.actors.all.items node inside b enter
 
     pub on-begun : {E : Type 0} (r : Result (Unit {0}) E) (old new : Acting) → old ≡ get_or p.actors.all.items node old → IsOf net new
-        → ((arriving : ℕ → ℕ → ℕ) (lines : ℕ → List Green) → Stands net arriving (standing_by lines) p.world
-        → OnOk r (Settles net (reading (heard_links net old.node)) (begun net p.round (sense net (cumulative_under net arriving (standing_by lines) p.world.second) p.world.second node) old) new))
+        → ((arriving : ℕ → ℕ → ℕ) (lines : ℕ → List Green) → Stands net arriving (signs_by lines) p.world
+        → OnOk r (Settles net (reading (heard_links net old.node)) (begun net p.round (sense net (cumulative_under net arriving (signs_by lines) p.world.second) p.world.second node) old) new))
         → OnOk r (Begins net arrivals p.history.items p.round (set p.actors.all.items node new) p.boards.items p.world p.plans (node + 1))
     on-begun r old new is of_new settles =
         on_ok_weaker r (begins-more net network arrivals p.history.items p.round p.boards.items p.world p.plans p.actors.all.items node inside b old new (at-any p.actors.all.items node old begin-there is) of_new)
@@ -76,13 +76,13 @@ module _ (net : Net) (network : IsNetwork net) (arrivals : Amounts) (p : Parts) 
   module _ (i : AreInRound net arrivals p) where
     -- the round ends
     module _ (done : AllDone p.actors.all.items) where
-      pub end-stands : Stands net (arriving_of arrivals) (standing_by (lines_of p.actors.all.items)) p.world
+      pub end-stands : Stands net (arriving_of arrivals) (signs_by (lines_of p.actors.all.items)) p.world
       end-stands = over-before net network arrivals p.history.items p.round p.actors.all.items p.boards.items p.world p.plans i done no_acting
 
       pub end-capacity : vec_len p.plans + length (records_in p.actors.all.items) ≤ vec_capacity p.plans
       end-capacity = plans-room net network arrivals p.history.items p.round p.actors.all.items p.boards.items p.world p.plans i done no_acting
 
-      pub end-between : (moved : WorldState) (rested : List Acting) (plans : Vec PlanRecord) → moved.second ≡ p.world.second + net.run.step → Stands net (arriving_of arrivals) (standing_by (lines_of p.actors.all.items)) moved
+      pub end-between : (moved : WorldState) (rested : List Acting) (plans : Vec PlanRecord) → moved.second ≡ p.world.second + net.run.step → Stands net (arriving_of arrivals) (signs_by (lines_of p.actors.all.items)) moved
           → rested ≡ map without_records p.actors.all.items → plans.items ≡ p.plans.items ++ records_in p.actors.all.items → vec_capacity p.plans ≤ vec_capacity plans → Between net arrivals p.history.items (p.round + 1) rested p.boards.items moved plans
       end-between moved rested plans second stands rests added grown =
           subst (λ (z : List Acting). Between net arrivals p.history.items (p.round + 1) z p.boards.items moved plans) (sym rests)

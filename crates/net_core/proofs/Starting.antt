@@ -1,5 +1,5 @@
 -- The parts of a core before the first round.
-use Rattle.std.proofs.Common.{◌≡◌, ℕ, ◌+◌, ◌*◌, ◌<◌, ◌≤◌, List, [], ◌∷◌, ◌++◌, Option, Some, None, length, vec_capacity, refl, sym, ap, ◌∙◌, inl, inr, arith}
+use Rattle.std.proofs.Common.{◌≡◌, ℕ, ◌+◌, ◌*◌, ◌<◌, ◌≤◌, List, [], ◌∷◌, ◌++◌, Some, None, length, vec_capacity, refl, sym, ap, ◌∙◌, inl, inr, arith}
 use Rattle.std.specs.Global.{Vec}
 use Rattle.std.proofs.lemmas.Bool.{cases_lt}
 use Rattle.std.proofs.lemmas.List.{get_or_past}
@@ -18,6 +18,7 @@ use Rattle.runs.specs.Resting.{AreNew}
 use Rattle.runs.proofs.Resting.{new-rest, no_commitment, zero-times}
 use Rattle.net_core.specs.States.{AreBlank, Between}
 use Rattle.net_core.specs.declared.parts.Board.{Board}
+use Rattle.control_flow.specs.declared.greens.Sign.{Sign}
 
 -- a link that ends at a node exists
 link-there : (net : Net) (l t : ℕ) → (link_at net l).to ≡ Some t → l < length net.links
@@ -27,7 +28,7 @@ link-there net l t to = elim (cases_lt l (length net.links)) [
 ]
 
 pub at-first : (net : Net) → IsNetwork net → (arrivals : Amounts) (history : List ℕ) (actors : List Acting) (boards : List Board) (world : WorldState) (plans : Vec PlanRecord) → history ≡ [] → AreNew net (length net.node_names) actors → AreBlank (length net.link_names) boards
-    → world.second ≡ 0 → ((arriving : ℕ → ℕ → ℕ) (shown : ℕ → ℕ → Option (ℕ × ℕ)) → Stands net arriving shown world) → plans.items ≡ [] → net.run.rounds * length net.node_names ≤ vec_capacity plans → Between net arrivals history 0 actors boards world plans
+    → world.second ≡ 0 → ((arriving : ℕ → ℕ → ℕ) (shown : ℕ → ℕ → Sign) → Stands net arriving shown world) → plans.items ≡ [] → net.run.rounds * length net.node_names ≤ vec_capacity plans → Between net arrivals history 0 actors boards world plans
 at-first net network arrivals history actors boards world plans none new blank second stands unplanned capacity = record {
   heard = λ r n. [];
   made = λ r n. no_commitment;

@@ -8,7 +8,7 @@ use Rattle.board_model.specs.declared.boards.Heard.{Heard}
 use Rattle.board_model.specs.declared.forecasts.Row.{Row}
 use Rattle.clusters.specs.Windows.{counts_of}
 use Rattle.clusters.specs.declared.vehicle_groups.Window.{Window}
-use Rattle.control_flow.specs.Greens.{standing}
+use Rattle.control_flow.specs.Signs.{sign_at}
 use Rattle.control_flow.specs.declared.greens.Green.{Green}
 use Rattle.histories.specs.Histories.{count, HasRounds, IsRound, version_at}
 use Rattle.histories.specs.Steps.{board_steps}
@@ -22,7 +22,7 @@ use Rattle.intersection_actor.specs.declared.records.Want.{Want}
 use Rattle.intersection_actor.specs.declared.records.Want.TheVariants.{Read, Commit, Publish, Done}
 use Rattle.intersection_actor.specs.declared.records.PlanRecord.{PlanRecord}
 use Rattle.net_parts.specs.Numbers.{Net}
-use Rattle.net_simulator.specs.Worlds.{WorldState, Stands, standing_by}
+use Rattle.net_simulator.specs.Worlds.{WorldState, Stands, signs_by}
 use Rattle.outflow.specs.Outflow.{departures, told_forecast}
 use Rattle.road_net.specs.Network.{IsNetwork, heard_links, told_links}
 use Rattle.switch_rules.specs.declared.Served.{Served}
@@ -316,13 +316,13 @@ module _ (net : Net) (network : IsNetwork net) (arrivals : Amounts) (history : L
         ∙ (over-tells n d below).line
         ∙ ap (λ r. line_before net i.made r n) (let e : suc round ≡ round + 1 = omega arith in e)
 
-    lines-show : Acting → (x n : ℕ) → x < (round + 1) * net.run.step → n < length net.node_names → standing (lines_of actors n) x ≡ shown_by net i.made x n
+    lines-show : Acting → (x n : ℕ) → x < (round + 1) * net.run.step → n < length net.node_names → sign_at (lines_of actors n) x ≡ shown_by net i.made x n
     lines-show d x n less below =
-        ap (λ (l : List Green). standing l x) (line-is n d below)
+        ap (λ (l : List Green). sign_at l x) (line-is n d below)
         ∙ before-shows net network (arriving_of arrivals) (round + 1) i.heard i.made (let z = i.below in omega arith) (over-commits d) x n less below
 
-    pub over-before : Acting → Stands net (arriving_of arrivals) (standing_by (lines_of actors)) world
-    over-before d = stands-same net network (arriving_of arrivals) (shown_by net i.made) (standing_by (lines_of actors)) world (λ x n less below. sym (lines-show d x n (earlier x less) below)) i.running.stands
+    pub over-before : Acting → Stands net (arriving_of arrivals) (signs_by (lines_of actors)) world
+    over-before d = stands-same net network (arriving_of arrivals) (shown_by net i.made) (signs_by (lines_of actors)) world (λ x n less below. sym (lines-show d x n (earlier x less) below)) i.running.stands
       where
         earlier : (x : ℕ) → x < world.second → x < (round + 1) * net.run.step
         earlier x less = (let e : (round + 1) * net.run.step ≡ round * net.run.step + net.run.step = omega arith in omega (arith, e, i.running.second))
@@ -332,7 +332,7 @@ module _ (net : Net) (network : IsNetwork net) (arrivals : Amounts) (history : L
     plans-room d = next-room net i.heard i.made round plans i.running.planned actors i.all (λ n e below. (over-tells n e below).records) i.below
 
     -- so the next round can begin
-    pub round-over : (moved : WorldState) (next : Vec PlanRecord) (d : Acting) → moved.second ≡ world.second + net.run.step → Stands net (arriving_of arrivals) (standing_by (lines_of actors)) moved
+    pub round-over : (moved : WorldState) (next : Vec PlanRecord) (d : Acting) → moved.second ≡ world.second + net.run.step → Stands net (arriving_of arrivals) (signs_by (lines_of actors)) moved
         → next.items ≡ plans.items ++ records_in actors → vec_capacity plans ≤ vec_capacity next → Between net arrivals history (round + 1) (map without_records actors) boards moved next
     round-over moved next d second stands added grown =
         let now : moved.second ≡ (round + 1) * net.run.step = (let e : (round + 1) * net.run.step ≡ round * net.run.step + net.run.step = omega arith in omega (arith, e, second, i.running.second)) in
@@ -347,7 +347,7 @@ module _ (net : Net) (network : IsNetwork net) (arrivals : Amounts) (history : L
             along = i.running.along;
             boards_are = i.running.boards_are;
             second = now;
-            stands = stands-same net network (arriving_of arrivals) (standing_by (lines_of actors)) (shown_by net i.made) moved (λ x n less below. lines-show d x n (omega arith) below) stands;
+            stands = stands-same net network (arriving_of arrivals) (signs_by (lines_of actors)) (shown_by net i.made) moved (λ x n less below. lines-show d x n (omega arith) below) stands;
             planned = plans-next net i.heard i.made round plans i.running.planned actors i.all (λ n e below. (over-tells n e below).records) next added grown;
           };
           all = length-map actors without_records ∙ i.all;

@@ -8,7 +8,7 @@ ghost use Rattle.intersection_actor.specs.Rounds.{IsOf};
 ghost use Rattle.net_core.specs.Acts.{HasTold, Settles};
 ghost use Rattle.net_simulator.specs.Flow.{cumulative_under};
 ghost use Rattle.net_simulator.specs.Senses.{sense};
-ghost use Rattle.net_simulator.specs.Worlds.{IsWorldOf, Stands, standing_by};
+ghost use Rattle.net_simulator.specs.Worlds.{IsWorldOf, Stands, signs_by};
 ghost use Rattle.outflow.specs.Outflow.{departures, told_forecast};
 ghost use Rattle.road_net.specs.Network.{heard_links};
 
@@ -56,10 +56,10 @@ pub(crate) fn begin<P: Planner>(
     requires ahead { world.now.second < end_of actor.old.line }
     requires world { IsWorldOf net.now world.now }
     ensures begun { (arriving : ℕ → ℕ → ℕ) (lines : ℕ → List Green)
-        → Stands net.now arriving (standing_by lines) world.now
+        → Stands net.now arriving (signs_by lines) world.now
         → OnOk result (Settles net.now (reading (heard_links net.now actor.old.node))
         (begun net.now round
-        (sense net.now (cumulative_under net.now arriving (standing_by lines) world.now.second) world.now.second node)
+        (sense net.now (cumulative_under net.now arriving (signs_by lines) world.now.second) world.now.second node)
         actor.old) actor.new) }
     ensures of { IsOf net.now actor.new }
 {

@@ -1,11 +1,12 @@
 -- How the past of a network grows.
-use Rattle.std.proofs.Common.{◌≡◌, ℕ, suc, ◌+◌, ◌<◌, ◌≤◌, Option, length, sym, ap, ◌∙◌}
+use Rattle.std.proofs.Common.{◌≡◌, ℕ, suc, ◌+◌, ◌<◌, ◌≤◌, length, sym, ap, ◌∙◌}
 use Rattle.net_parts.specs.Numbers.{Net}
+use Rattle.control_flow.specs.declared.greens.Sign.{Sign}
 use Rattle.net_simulator.specs.Flow.{nothing, passed_in, discharge, passing, history, cumulative_under}
 use Rattle.net_simulator.specs.Moves.{history_by}
 use Rattle.net_simulator.proofs.MoveLaws.{flowing, same-history, kept-by, next-by, none-by, by-same}
 
-module _ (net : Net) (arriving : ℕ → ℕ → ℕ) (shown : ℕ → ℕ → Option (ℕ × ℕ)) where
+module _ (net : Net) (arriving : ℕ → ℕ → ℕ) (shown : ℕ → ℕ → Sign) where
   -- a further second leaves the past as it was
   pub past-kept : (x n l : ℕ) → n ≤ x → cumulative_under net arriving shown (suc x) n l ≡ cumulative_under net arriving shown x n l
   past-kept x n l h = rw (same-history net arriving shown (suc x), same-history net arriving shown x) (kept-by net (flowing net arriving shown) x n l h)
@@ -19,10 +20,10 @@ module _ (net : Net) (arriving : ℕ → ℕ → ℕ) (shown : ℕ → ℕ → O
   past-none now l = rw (same-history net arriving shown now) (none-by net (flowing net arriving shown) now l)
 
 -- only what is shown and what arrives in the seconds below n counts for the first n seconds
-pub history-same : (net : Net) (arriving others : ℕ → ℕ → ℕ) (shown seen : ℕ → ℕ → Option (ℕ × ℕ)) (n : ℕ)
+pub history-same : (net : Net) (arriving others : ℕ → ℕ → ℕ) (shown seen : ℕ → ℕ → Sign) (n : ℕ)
     → ((x l : ℕ) → x < n → arriving x l ≡ others x l) → ((x node : ℕ) → x < n → shown x node ≡ seen x node)
     → history net arriving shown n ≡ history net others seen n
 history-same net arriving others shown seen n a s =
     same-history net arriving shown n
-    ∙ by-same net (flowing net arriving shown) (flowing net others seen) n (λ x h. record { goes = λ l b. ap (λ (g : ℕ → Option (ℕ × ℕ)). discharge net g (passed_in (history_by net (flowing net others seen) x)) x l) (let e : shown x ≡ seen x = λ i k. s x k h i in e); comes = λ l b. a x l h })
+    ∙ by-same net (flowing net arriving shown) (flowing net others seen) n (λ x h. record { goes = λ l b. ap (λ (g : ℕ → Sign). discharge net g (passed_in (history_by net (flowing net others seen) x)) x l) (let e : shown x ≡ seen x = λ i k. s x k h i in e); comes = λ l b. a x l h })
     ∙ sym (same-history net others seen n)

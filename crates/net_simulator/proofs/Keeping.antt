@@ -1,6 +1,5 @@
 -- One second of the code is one second of the past.
-use Rattle.std.proofs.Common.{◌≡◌, ◌≢◌, ℕ, ◌+◌, ◌-◌, ◌*◌, ◌%◌, ◌<◌, ◌≤◌, Bool, true, false, not, ◌&&◌, eqb, ltb, min, cond, List, Option, Some, None, IfSome, length, slice_index, slice_index_or, refl, sym, ap, ◌∙◌, inl, inr, arith}
-use Rattle.std.specs.Option.{option_map}
+use Rattle.std.proofs.Common.{◌≡◌, ◌≢◌, ℕ, ◌+◌, ◌-◌, ◌*◌, ◌%◌, ◌<◌, ◌≤◌, Bool, true, false, not, ◌&&◌, eqb, ltb, min, cond, List, Option, Some, None, length, slice_index, slice_index_or, refl, sym, ap, ◌∙◌, inl, inr, arith}
 use Rattle.std.proofs.Math.Nat.{add-mod_right}
 use Rattle.std.proofs.lemmas.Bool.{ltb-true}
 use Rattle.std.proofs.lemmas.Bool.Decides.{eqb_tells}
@@ -8,12 +7,13 @@ use Rattle.phase_plan.specs.Phases.{phase_at}
 use Rattle.net_parts.specs.Numbers.{Net}
 use Rattle.net_parts.specs.Outline.{link_at, plan_at, turns_at}
 use Rattle.road_net.specs.Joins.{split_of}
-use Rattle.control_flow.specs.declared.greens.Green.{Green}
+use Rattle.control_flow.specs.declared.greens.Sign.{Sign}
+use Rattle.control_flow.specs.declared.greens.Sign.TheVariants.{Change, Dark, On}
 use Rattle.road_net.specs.Totals.{total}
 use Rattle.net_simulator.specs.Flow.{Cumulative, queue, waiting, is_lost, may_go, discharge_to, discharge}
 use Rattle.net_simulator.specs.Moves.{Moves}
 use Rattle.net_simulator.specs.Rows.{cell}
-use Rattle.net_simulator.specs.LinkSeconds.{is_open, waits_at}
+use Rattle.net_simulator.specs.LinkSeconds.{HasBegun, is_open, waits_at}
 use Rattle.net_simulator.specs.Steps.{goes}
 use Rattle.net_simulator.specs.Worlds.{Keeps}
 use Rattle.road_net.proofs.TotalLaws.{total-same}
@@ -22,9 +22,6 @@ use Rattle.net_simulator.proofs.Sound.{IsSound, Continues}
 and-same : (a b c : Bool) → (a ≡ true → b ≡ c) → (a && b) ≡ (a && c)
 and-same true b c same = same refl
 and-same false b c same = refl
-
-abbrev pub phase_and_begin : Green → ℕ × ℕ
-phase_and_begin g = (g.phase, g.from)
 
 -- one turn of the row later the cell is the same
 cell-turn : (rows : List ℕ) (l y z : ℕ) → y ≡ z + 128 → cell rows l y ≡ cell rows l z
@@ -68,32 +65,32 @@ module _ (net : Net) (x : ℕ) (before : ℕ → ℕ → Cumulative) (qs rs ws :
       let turned = cell-turn ws l (x + 128 - (x - from)) from (omega arith) in
       ap (ltb 0) (sym turned ∙ kept ∙ ap (λ n. queue net before n l) d))
 
-  pub open-same : (l node : ℕ) (green : Option Green) → l < length net.link_names → (link_at net l).to ≡ Some node → IfSome green (λ g. g.from ≤ x)
-      → is_open net ws x l node green ≡ may_go net before x l node (option_map phase_and_begin green)
-  open-same l node None h to begun = refl
-  open-same l node (Some green) h to begun =
-      let loss = (phase_at (plan_at net node) green.phase).loss in
-      and-same (eqb green.phase (link_at net l).phase) (not (is_lost loss green.from x (cell ws l green.from))) (not (is_lost loss green.from x (queue net before green.from l))) (λ e.
-      elim (eqb_tells green.phase (link_at net l).phase) [
+  pub open-same : (l node : ℕ) (sign : Sign) → l < length net.link_names → (link_at net l).to ≡ Some node → HasBegun x sign → is_open net ws x l node sign ≡ may_go net before x l node sign
+  open-same l node Dark h to begun = refl
+  open-same l node (Change from next) h to begun = refl
+  open-same l node (On phase since) h to begun =
+      let loss = (phase_at (plan_at net node) phase).loss in
+      and-same (eqb phase (link_at net l).phase) (not (is_lost loss since x (cell ws l since))) (not (is_lost loss since x (queue net before since l))) (λ e.
+      elim (eqb_tells phase (link_at net l).phase) [
         | inl p ↦
             let small : loss ≤ 10 = omega (arith, bounds.losses l node h to, ap (λ k. (phase_at (plan_at net node) k).loss) p.1) in
-            ap not (lost-same l green.from loss h begun small)
-        | inr q ↦ let impossible : true ≡ false = sym e ∙ q.0 in let r : not (is_lost loss green.from x (cell ws l green.from)) ≡ not (is_lost loss green.from x (queue net before green.from l)) = cc in r
+            ap not (lost-same l since loss h begun small)
+        | inr q ↦ let impossible : true ≡ false = sym e ∙ q.0 in let r : not (is_lost loss since x (cell ws l since)) ≡ not (is_lost loss since x (queue net before since l)) = cc in r
       ])
 
-  goes-to : (shown : ℕ → Option (ℕ × ℕ)) (greens : List (Option Green)) (l w : ℕ) (to : Option ℕ) → l < length net.link_names → (link_at net l).to ≡ to
-      → ((n : ℕ) → n < length net.node_names → IfSome (slice_index_or greens n None) (λ g. g.from ≤ x)) → ((n : ℕ) → n < length net.node_names → shown n ≡ option_map phase_and_begin (slice_index_or greens n None)) → w ≡ waiting net before x l
-      → goes net greens ws x l w to ≡ discharge_to net shown before x l to
-  goes-to shown greens l w None h to begun seen same = same
-  goes-to shown greens l w (Some node) h to begun seen same =
+  goes-to : (shown : ℕ → Sign) (signs : List Sign) (l w : ℕ) (to : Option ℕ) → l < length net.link_names → (link_at net l).to ≡ to
+      → ((n : ℕ) → n < length net.node_names → HasBegun x (slice_index_or signs n Dark)) → ((n : ℕ) → n < length net.node_names → shown n ≡ slice_index_or signs n Dark) → w ≡ waiting net before x l
+      → goes net signs ws x l w to ≡ discharge_to net shown before x l to
+  goes-to shown signs l w None h to begun seen same = same
+  goes-to shown signs l w (Some node) h to begun seen same =
       let there = bounds.ends l node h to in
-      let may = open-same l node (slice_index_or greens node None) h to (begun node there) ∙ ap (may_go net before x l node) (sym (seen node there)) in
+      let may = open-same l node (slice_index_or signs node Dark) h to (begun node there) ∙ ap (may_go net before x l node) (sym (seen node there)) in
       ap (λ b. cond b (min (link_at net l).sat w) 0) may ∙ ap (λ n. cond (may_go net before x l node (shown node)) (min (link_at net l).sat n) 0) same
 
-  pub goes-same : (shown : ℕ → Option (ℕ × ℕ)) (greens : List (Option Green)) (l w : ℕ) → l < length net.link_names
-      → ((n : ℕ) → n < length net.node_names → IfSome (slice_index_or greens n None) (λ g. g.from ≤ x)) → ((n : ℕ) → n < length net.node_names → shown n ≡ option_map phase_and_begin (slice_index_or greens n None)) → w ≡ waiting net before x l
-      → goes net greens ws x l w (link_at net l).to ≡ discharge net shown before x l
-  goes-same shown greens l w h begun seen same = goes-to shown greens l w (link_at net l).to h refl begun seen same
+  pub goes-same : (shown : ℕ → Sign) (signs : List Sign) (l w : ℕ) → l < length net.link_names
+      → ((n : ℕ) → n < length net.node_names → HasBegun x (slice_index_or signs n Dark)) → ((n : ℕ) → n < length net.node_names → shown n ≡ slice_index_or signs n Dark) → w ≡ waiting net before x l
+      → goes net signs ws x l w (link_at net l).to ≡ discharge net shown before x l
+  goes-same shown signs l w h begun seen same = goes-to shown signs l w (link_at net l).to h refl begun seen same
 
 module _ (net : Net) (m : Moves) (x : ℕ) (before after : ℕ → ℕ → Cumulative) (qs rs ws : List ℕ)
     (bounds : HasBounds net) (on : Continues net m x before after) (keeps : Keeps net before qs rs ws x) where

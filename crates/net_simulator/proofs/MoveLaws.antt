@@ -1,5 +1,5 @@
 -- How a past grows by what moves in each second, whatever the rule of that is.
-use Rattle.std.proofs.Common.{◌≡◌, ℕ, zero, suc, ◌+◌, ◌<◌, ◌≤◌, List, [], ◌∷◌, ◌++◌, Option, length, get_or, map, refl, sym, ap, ◌∙◌, arith, length-append}
+use Rattle.std.proofs.Common.{◌≡◌, ℕ, zero, suc, ◌+◌, ◌<◌, ◌≤◌, List, [], ◌∷◌, ◌++◌, length, get_or, map, refl, sym, ap, ◌∙◌, arith, length-append}
 use Rattle.std.specs.List.{range_with_len}
 use Rattle.std.proofs.Math.ListN.{get_or-append}
 use Rattle.std.proofs.Math.Seq.{get_or-append_seam}
@@ -11,13 +11,14 @@ use Rattle.road_net.proofs.TotalLaws.{total-same}
 use Rattle.net_simulator.specs.Flow.{Cumulative, nothing, passed_in, discharge, history}
 use Rattle.net_simulator.specs.Moves.{Moves, moved, history_by}
 use Rattle.net_simulator.proofs.Sums.{range-same}
+use Rattle.control_flow.specs.declared.greens.Sign.{Sign}
 
 -- what moves in a second, where each link discharges into links that take whatever enters, and all that arrives enters
-abbrev pub flowing : Net → (ℕ → ℕ → ℕ) → (ℕ → ℕ → Option (ℕ × ℕ)) → List (List Cumulative) → ℕ → Moves
+abbrev pub flowing : Net → (ℕ → ℕ → ℕ) → (ℕ → ℕ → Sign) → List (List Cumulative) → ℕ → Moves
 flowing net arriving shown before x = record { goes = discharge net (shown x) (passed_in before) x; comes = arriving x }
 
 -- the world of these moves is the world that stands
-pub same-history : (net : Net) (arriving : ℕ → ℕ → ℕ) (shown : ℕ → ℕ → Option (ℕ × ℕ)) (n : ℕ) → history net arriving shown n ≡ history_by net (flowing net arriving shown) n
+pub same-history : (net : Net) (arriving : ℕ → ℕ → ℕ) (shown : ℕ → ℕ → Sign) (n : ℕ) → history net arriving shown n ≡ history_by net (flowing net arriving shown) n
 unfolding history history_by
 same-history net arriving shown zero = refl
 same-history net arriving shown (suc x) = rw (same-history net arriving shown x) refl

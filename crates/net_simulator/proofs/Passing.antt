@@ -1,13 +1,15 @@
 -- A world that stands for its past stands for it one second later.
-use Rattle.std.proofs.Common.{◌≡◌, ◌≢◌, ℕ, zero, suc, ◌+◌, ◌-◌, ◌*◌, ◌%◌, ◌<◌, ◌≤◌, List, [], ◌∷◌, Option, Some, None, IfSome, length, replicate, get_or, slice_index, slice_index_or, refl, sym, ap, subst, ◌∙◌, add-one, arith}
-use Rattle.std.specs.Option.{option_map}
-use Rattle.std.proofs.lemmas.Bool.{cond_both, and_parts, leb-true}
+use Rattle.std.proofs.Common.{◌≡◌, ◌≢◌, ℕ, zero, suc, ◌+◌, ◌-◌, ◌*◌, ◌%◌, ◌<◌, ◌≤◌, List, [], ◌∷◌, Option, Some, None, length, replicate, get_or, slice_index, slice_index_or, refl, sym, ap, subst, ◌∙◌, add-one, inl, inr, arith}
+use Rattle.std.proofs.lemmas.Bool.{cases_lt}
 use Rattle.net_parts.specs.Numbers.{Net}
 use Rattle.net_parts.specs.Outline.{link_at, turns_at}
 use Rattle.road_net.specs.Joins.{split_of}
 use Rattle.road_net.specs.Network.{IsNetwork}
 use Rattle.control_flow.specs.declared.greens.Green.{Green}
-use Rattle.control_flow.specs.Greens.{green_at, covers}
+use Rattle.control_flow.specs.Signs.{change_from, sign_after, sign_at}
+use Rattle.control_flow.specs.declared.greens.Sign.{Sign}
+use Rattle.control_flow.specs.declared.greens.Sign.TheVariants.{Dark}
+use Rattle.control_flow.proofs.SignLaws.{after-row, before-row, within-row}
 use Rattle.net_simulator.specs.declared.totals.LinkTotals.{LinkTotals}
 use Rattle.net_simulator.specs.declared.totals.Totals.{Totals}
 use Rattle.road_net.specs.Totals.{total}
@@ -17,16 +19,16 @@ use Rattle.net_simulator.specs.Sums.{outward, total_arrived, total_left, on_road
 use Rattle.net_simulator.specs.Moves.{Moves}
 use Rattle.net_simulator.specs.Rows.{cell}
 use Rattle.net_simulator.specs.Counts.{counts_at, no_totals}
-use Rattle.net_simulator.specs.LinkSeconds.{waits_at, stands_on}
+use Rattle.net_simulator.specs.LinkSeconds.{HasBegun, waits_at, stands_on}
 use Rattle.net_simulator.specs.Steps.{goes, goes_out, all_of, counted, FitsSeconds}
 use Rattle.net_simulator.specs.Senses.{stood}
-use Rattle.net_simulator.specs.Worlds.{WorldState, HasShape, Keeps, Stands, standing_by}
+use Rattle.net_simulator.specs.Worlds.{WorldState, HasShape, Keeps, Stands, signs_by}
 use Rattle.road_net.proofs.TotalLaws.{total-same, total-le, total-zero}
 use Rattle.net_simulator.proofs.Sums.{total-of}
 use Rattle.net_simulator.proofs.MoveLaws.{flowing, same-history, zero-by}
 use Rattle.net_simulator.proofs.FlowLaws.{history-same}
 use Rattle.net_simulator.proofs.Sound.{IsSound, Continues, AreMoved, flows, flow-moved, next-one}
-use Rattle.net_simulator.proofs.Keeping.{phase_and_begin, waits-same, goes-same, kept-queue, keeps-next}
+use Rattle.net_simulator.proofs.Keeping.{waits-same, goes-same, kept-queue, keeps-next}
 use Rattle.net_simulator.proofs.EveryWorld.{bounds-of, are-sound, all-there, gone-more, delay-more, delays-more, road-most, out-most, waits-most, enters-most, entered-most, delay-within}
 use Rattle.net_simulator.proofs.Standing.{stood-none, stood-most, stood-kept, stood-next}
 use Rattle.net_simulator.proofs.Conserving.{left-entered}
@@ -35,18 +37,28 @@ use Rattle.net_simulator.proofs.Conserving.{left-entered}
 pub few-of : (net : Net) → IsNetwork net → (a : Amounts) → AreArrivals net a → AreFew net (arriving_of a)
 few-of net network a enter n = subst (λ k. total (λ x. total (arriving_of a x) k) n ≤ 2000000000) network.outline.road_count (enter.few n)
 
--- a green that covers a second has begun
-pub green_at-begun : (rows : List Green) (x : ℕ) → IfSome (green_at rows x) (λ g. g.from ≤ x)
-green_at-begun [] x = tt
-green_at-begun (r ∷ rs) x = cond_both (covers r x) (Some r) (green_at rs x) (λ o. IfSome o (λ g. g.from ≤ x)) (λ e. leb-true r.from x (and_parts _ _ e).0) (λ e. green_at-begun rs x)
+-- the green of a sign has begun
+change-begun : (before : Option ℕ) (j x : ℕ) → HasBegun x (change_from before j)
+change-begun None j x = tt
+change-begun (Some k) j x = tt
 
-pub begun-by : (greens : List (Option Green)) (nodes : ℕ) (lines : ℕ → List Green) (x : ℕ) → ((n : ℕ) → n < nodes → slice_index_or greens n None ≡ green_at (lines n) x)
-    → (n : ℕ) → n < nodes → IfSome (slice_index_or greens n None) (λ g. g.from ≤ x)
-begun-by greens nodes lines x seen n h = rw (seen n h) (green_at-begun (lines n) x)
+sign-begun : (before : Option ℕ) (rows : List Green) (x : ℕ) → HasBegun x (sign_after before rows x)
+sign-begun before [] x = tt
+sign-begun before (r ∷ rs) x = elim (cases_lt x r.from) [
+  | inl early ↦ rw (before-row before r rs x early) (change-begun before r.phase x)
+  | inr begun ↦ elim (cases_lt x r.to) [
+      | inl within ↦ rw (within-row before r rs x begun within) begun
+      | inr over ↦ rw (after-row before r rs x begun over) (sign-begun (Some r.phase) rs x)
+    ]
+]
 
-pub seen-by : (greens : List (Option Green)) (nodes : ℕ) (lines : ℕ → List Green) (x : ℕ) → ((n : ℕ) → n < nodes → slice_index_or greens n None ≡ green_at (lines n) x)
-    → (n : ℕ) → n < nodes → standing_by lines x n ≡ option_map phase_and_begin (slice_index_or greens n None)
-seen-by greens nodes lines x seen n h = ap (option_map phase_and_begin) (sym (seen n h))
+pub begun-by : (signs : List Sign) (nodes : ℕ) (lines : ℕ → List Green) (x : ℕ) → ((n : ℕ) → n < nodes → slice_index_or signs n Dark ≡ sign_at (lines n) x)
+    → (n : ℕ) → n < nodes → HasBegun x (slice_index_or signs n Dark)
+begun-by signs nodes lines x seen n h = rw (seen n h) (sign-begun None (lines n) x)
+
+pub seen-by : (signs : List Sign) (nodes : ℕ) (lines : ℕ → List Green) (x : ℕ) → ((n : ℕ) → n < nodes → slice_index_or signs n Dark ≡ sign_at (lines n) x)
+    → (n : ℕ) → n < nodes → signs_by lines x n ≡ slice_index_or signs n Dark
+seen-by signs nodes lines x seen n h = sym (seen n h)
 
 same-link : (s t : LinkTotals) → s.entered ≡ t.entered → s.left ≡ t.left → s.delay ≡ t.delay → s ≡ t
 same-link s t a b c = λ i. record { entered = a i; left = b i; delay = c i }
@@ -55,14 +67,14 @@ same-totals : (s t : Totals) → s.entered ≡ t.entered → s.left ≡ t.left �
 same-totals s t a b c d = λ i. record { entered = a i; left = b i; on = c i; delay = d i }
 
 -- what holds of every world, of the world that stands
-module _ (net : Net) (network : IsNetwork net) (arriving : ℕ → ℕ → ℕ) (shown : ℕ → ℕ → Option (ℕ × ℕ)) where
+module _ (net : Net) (network : IsNetwork net) (arriving : ℕ → ℕ → ℕ) (shown : ℕ → ℕ → Sign) where
   pub sound-at : (n : ℕ) → IsSound net (cumulative_under net arriving shown n) n
   sound-at = are-sound net network (flows net arriving shown) (cumulative_under net arriving shown) (flow-moved net arriving shown)
 
   pub whole-at : (n : ℕ) → on_road net (cumulative_under net arriving shown n) n + total_left net (cumulative_under net arriving shown n) n ≡ total_arrived net arriving n
   whole-at = all-there net network (flows net arriving shown) (cumulative_under net arriving shown) (flow-moved net arriving shown)
 
-module _ (net : Net) (network : IsNetwork net) (arriving : ℕ → ℕ → ℕ) (shown : ℕ → ℕ → Option (ℕ × ℕ)) (arrivals : AreFew net arriving) where
+module _ (net : Net) (network : IsNetwork net) (arriving : ℕ → ℕ → ℕ) (shown : ℕ → ℕ → Sign) (arrivals : AreFew net arriving) where
   pub on-road-most : (n : ℕ) → on_road net (cumulative_under net arriving shown n) n ≤ 2000000000
   on-road-most = road-most net network (flows net arriving shown) (cumulative_under net arriving shown) (flow-moved net arriving shown) arrivals
 
@@ -79,10 +91,10 @@ module _ (net : Net) (network : IsNetwork net) (arriving : ℕ → ℕ → ℕ) 
   delay-small = delay-within net network (flows net arriving shown) (cumulative_under net arriving shown) (flow-moved net arriving shown) arrivals
 
 -- what the code does in second x
-pub record IsStep (net : Net) (arriving : ℕ → ℕ) (x : ℕ) (greens : List (Option Green)) (rs1 lv : List ℕ) (w v : WorldState) : Type 0 where
+pub record IsStep (net : Net) (arriving : ℕ → ℕ) (x : ℕ) (signs : List Sign) (rs1 lv : List ℕ) (w v : WorldState) : Type 0 where
   pub arrives : (l : ℕ) → l < length net.link_names → cell rs1 l x ≡ arriving l
   pub arrives-others : (l y : ℕ) → y % 128 ≢ x % 128 → cell rs1 l y ≡ cell w.recent l y
-  pub leaves : (l : ℕ) → l < length net.link_names → slice_index lv l ≡ goes net greens w.waits x l (waits_at net w.queues rs1 x l) (link_at net l).to
+  pub leaves : (l : ℕ) → l < length net.link_names → slice_index lv l ≡ goes net signs w.waits x l (waits_at net w.queues rs1 x l) (link_at net l).to
   pub queues : (l : ℕ) → l < length net.link_names → slice_index v.queues l ≡ waits_at net w.queues rs1 x l - slice_index lv l
   pub enters : (l : ℕ) → l < length net.link_names → cell v.recent l x ≡ cell rs1 l x + total (λ k. split_of (turns_at net k) (slice_index lv k) l) (length net.link_names)
   pub enters-others : (l y : ℕ) → y % 128 ≢ x % 128 → cell v.recent l y ≡ cell rs1 l y
@@ -95,21 +107,21 @@ pub record IsStep (net : Net) (arriving : ℕ → ℕ) (x : ℕ) (greens : List 
   pub delay : v.totals.delay ≡ w.totals.delay + all_of v.queues (length net.link_names)
   pub on : v.totals.on ≡ v.totals.entered - v.totals.left
 
-module _ (net : Net) (network : IsNetwork net) (arriving : ℕ → ℕ → ℕ) (lines : ℕ → List Green) (arrivals : AreFew net arriving) (w : WorldState) (stands : Stands net arriving (standing_by lines) w) where
+module _ (net : Net) (network : IsNetwork net) (arriving : ℕ → ℕ → ℕ) (lines : ℕ → List Green) (arrivals : AreFew net arriving) (w : WorldState) (stands : Stands net arriving (signs_by lines) w) where
   abbrev past : ℕ → ℕ → ℕ → Cumulative
-  past = cumulative_under net arriving (standing_by lines)
+  past = cumulative_under net arriving (signs_by lines)
 
   abbrev before : ℕ → ℕ → Cumulative
-  before = cumulative_under net arriving (standing_by lines) w.second
+  before = cumulative_under net arriving (signs_by lines) w.second
 
   abbrev moves : ℕ → Moves
-  moves = flows net arriving (standing_by lines)
+  moves = flows net arriving (signs_by lines)
 
-  course : AreMoved net (flows net arriving (standing_by lines)) (cumulative_under net arriving (standing_by lines))
-  course = flow-moved net arriving (standing_by lines)
+  course : AreMoved net (flows net arriving (signs_by lines)) (cumulative_under net arriving (signs_by lines))
+  course = flow-moved net arriving (signs_by lines)
 
-  abbrev sound : IsSound net (cumulative_under net arriving (standing_by lines) w.second) w.second
-  sound = sound-at net network arriving (standing_by lines) w.second
+  abbrev sound : IsSound net (cumulative_under net arriving (signs_by lines) w.second) w.second
+  sound = sound-at net network arriving (signs_by lines) w.second
 
   -- what waits in this second
   pub waits-now : (rs1 : List ℕ) → ((l y : ℕ) → y % 128 ≢ w.second % 128 → cell rs1 l y ≡ cell w.recent l y) → (l : ℕ) → l < length net.link_names → waits_at net w.queues rs1 w.second l ≡ waiting net before w.second l
@@ -119,53 +131,53 @@ module _ (net : Net) (network : IsNetwork net) (arriving : ℕ → ℕ → ℕ) 
   room-leave rs1 others l h = omega (arith, waits-now rs1 others l h, waits-most net network moves past course arrivals w.second l h)
 
   -- what leaves in this second
-  pub leaves-now : (greens : List (Option Green)) (rs1 lv : List ℕ) → ((n : ℕ) → n < length net.node_names → slice_index_or greens n None ≡ green_at (lines n) w.second)
+  pub leaves-now : (signs : List Sign) (rs1 lv : List ℕ) → ((n : ℕ) → n < length net.node_names → slice_index_or signs n Dark ≡ sign_at (lines n) w.second)
       → ((l y : ℕ) → y % 128 ≢ w.second % 128 → cell rs1 l y ≡ cell w.recent l y)
-      → ((l : ℕ) → l < length net.link_names → slice_index lv l ≡ goes net greens w.waits w.second l (waits_at net w.queues rs1 w.second l) (link_at net l).to)
-      → (l : ℕ) → l < length net.link_names → slice_index lv l ≡ discharge net (standing_by lines w.second) before w.second l
-  leaves-now greens rs1 lv seen others leaves l h =
-      leaves l h ∙ goes-same net w.second before w.queues w.recent w.waits (bounds-of net network) sound stands.keeps (standing_by lines w.second)
-      greens l (waits_at net w.queues rs1 w.second l) h (begun-by greens (length net.node_names) lines w.second seen) (seen-by greens (length net.node_names) lines w.second seen) (waits-now rs1 others l h)
+      → ((l : ℕ) → l < length net.link_names → slice_index lv l ≡ goes net signs w.waits w.second l (waits_at net w.queues rs1 w.second l) (link_at net l).to)
+      → (l : ℕ) → l < length net.link_names → slice_index lv l ≡ discharge net (signs_by lines w.second) before w.second l
+  leaves-now signs rs1 lv seen others leaves l h =
+      leaves l h ∙ goes-same net w.second before w.queues w.recent w.waits (bounds-of net network) sound stands.keeps (signs_by lines w.second)
+      signs l (waits_at net w.queues rs1 w.second l) h (begun-by signs (length net.node_names) lines w.second seen) (seen-by signs (length net.node_names) lines w.second seen) (waits-now rs1 others l h)
 
   -- what enters in this second, by what the code keeps
-  pub enters-now : (lv : List ℕ) → ((l : ℕ) → l < length net.link_names → slice_index lv l ≡ discharge net (standing_by lines w.second) before w.second l)
-      → (l : ℕ) → arriving w.second l + total (λ k. split_of (turns_at net k) (slice_index lv k) l) (length net.link_names) ≡ entered_in net (arriving w.second) (standing_by lines w.second) before w.second l
+  pub enters-now : (lv : List ℕ) → ((l : ℕ) → l < length net.link_names → slice_index lv l ≡ discharge net (signs_by lines w.second) before w.second l)
+      → (l : ℕ) → arriving w.second l + total (λ k. split_of (turns_at net k) (slice_index lv k) l) (length net.link_names) ≡ entered_in net (arriving w.second) (signs_by lines w.second) before w.second l
   enters-now lv leaves l =
-      let same = total-same (λ k. split_of (turns_at net k) (slice_index lv k) l) (λ k. split_of (turns_at net k) (discharge net (standing_by lines w.second) before w.second k) l) (length net.link_names) (λ k b. ap (λ a. split_of (turns_at net k) a l) (leaves k b)) in
+      let same = total-same (λ k. split_of (turns_at net k) (slice_index lv k) l) (λ k. split_of (turns_at net k) (discharge net (signs_by lines w.second) before w.second k) l) (length net.link_names) (λ k b. ap (λ a. split_of (turns_at net k) a l) (leaves k b)) in
       omega (arith, same)
 
-  pub room-enter : (rs1 lv : List ℕ) → ((l : ℕ) → l < length net.link_names → slice_index lv l ≡ discharge net (standing_by lines w.second) before w.second l)
+  pub room-enter : (rs1 lv : List ℕ) → ((l : ℕ) → l < length net.link_names → slice_index lv l ≡ discharge net (signs_by lines w.second) before w.second l)
       → ((l : ℕ) → l < length net.link_names → cell rs1 l w.second ≡ arriving w.second l)
       → (l : ℕ) → l < length net.link_names → cell rs1 l w.second + total (λ k. split_of (turns_at net k) (slice_index lv k) l) (length net.link_names) < 4294967296
-  room-enter rs1 lv leaves here l h = omega (arith, here l h, enters-now lv leaves l, entering-most net network arriving (standing_by lines) arrivals w.second l h)
+  room-enter rs1 lv leaves here l h = omega (arith, here l h, enters-now lv leaves l, entering-most net network arriving (signs_by lines) arrivals w.second l h)
 
   -- what the totals may become in this second
   pub room-entered : w.totals.entered + total (arriving w.second) (length net.link_names) ≤ 2000000000
   room-entered = let most = arrivals (suc w.second) in omega (arith, ap (λ (t : Totals). t.entered) stands.totals, most)
 
-  pub room-left : (lv : List ℕ) → ((l : ℕ) → l < length net.link_names → slice_index lv l ≡ discharge net (standing_by lines w.second) before w.second l)
+  pub room-left : (lv : List ℕ) → ((l : ℕ) → l < length net.link_names → slice_index lv l ≡ discharge net (signs_by lines w.second) before w.second l)
       → w.totals.left + goes_out net lv ≤ w.totals.entered + total (arriving w.second) (length net.link_names)
   room-left lv leaves =
-      let whole = whole-at net network arriving (standing_by lines) (w.second + 1) in
+      let whole = whole-at net network arriving (signs_by lines) (w.second + 1) in
       let more = ap (total_arrived net arriving) (add-one w.second) in
       omega (arith, ap (λ (t : Totals). t.entered) stands.totals, ap (λ (t : Totals). t.left) stands.totals, gone-more net network moves past course w.second lv leaves, whole, more)
 
   pub delay-most : w.totals.delay ≤ 11520000000000000
   delay-most =
-      let each = total-le (delay net before w.second) (λ l. 36000000000000) (length net.link_names) (λ l h. omega (arith, delay-small net network arriving (standing_by lines) arrivals w.second l h, stands.by)) in
+      let each = total-le (delay net before w.second) (λ l. 36000000000000) (length net.link_names) (λ l h. omega (arith, delay-small net network arriving (signs_by lines) arrivals w.second l h, stands.by)) in
       let all = total-of 36000000000000 (length net.link_names) in
       let few = network.outline.link_count.1 in
       omega (arith, ap (λ (t : Totals). t.delay) stands.totals, each, all, few)
 
-  pub stands-next : (greens : List (Option Green)) (rs1 lv : List ℕ) (v : WorldState) → w.second < 18000 → v.second ≡ w.second + 1 → HasShape net v
-      → ((n : ℕ) → n < length net.node_names → slice_index_or greens n None ≡ green_at (lines n) w.second)
-      → IsStep net (arriving w.second) w.second greens rs1 lv w v → Stands net arriving (standing_by lines) v
-  stands-next greens rs1 lv v below second shape seen step =
+  pub stands-next : (signs : List Sign) (rs1 lv : List ℕ) (v : WorldState) → w.second < 18000 → v.second ≡ w.second + 1 → HasShape net v
+      → ((n : ℕ) → n < length net.node_names → slice_index_or signs n Dark ≡ sign_at (lines n) w.second)
+      → IsStep net (arriving w.second) w.second signs rs1 lv w v → Stands net arriving (signs_by lines) v
+  stands-next signs rs1 lv v below second shape seen step =
       let x : ℕ = w.second in
-      let S : ℕ → ℕ → Option (ℕ × ℕ) = standing_by lines in
+      let S : ℕ → ℕ → Sign = signs_by lines in
       let Q : ℕ → ℕ → Cumulative = cumulative_under net arriving S (x + 1) in
       let on : Continues net (moves x) x before Q = next-one net moves past course x in
-      let leaves = leaves-now greens rs1 lv seen step.arrives-others step.leaves in
+      let leaves = leaves-now signs rs1 lv seen step.arrives-others step.leaves in
       let recent : (l : ℕ) → l < length net.link_names → cell v.recent l x ≡ arriving x l + total (λ k. split_of (turns_at net k) (slice_index lv k) l) (length net.link_names) = λ l h. omega (arith, step.enters l h, step.arrives l h) in
       let keeps : Keeps net Q v.queues v.recent v.waits (x + 1) =
       keeps-next net (moves x) x before Q w.queues w.recent w.waits (bounds-of net network) on stands.keeps lv v.queues v.recent v.waits leaves
@@ -201,7 +213,7 @@ module _ (net : Net) (network : IsNetwork net) (arriving : ℕ → ℕ → ℕ) 
   pub counts-small : (l : ℕ) → l < length net.link_names → FitsSeconds w.second (counts_at w.counts l)
   counts-small l h =
       let n : ℕ = w.second in
-      let S : ℕ → ℕ → Option (ℕ × ℕ) = standing_by lines in
+      let S : ℕ → ℕ → Sign = signs_by lines in
       let small = entered-small net network arriving S arrivals n l h in
       let less = left-entered net (cumulative_under net arriving S n) n (sound-at net network arriving S n) l n h (omega arith) in
       record {
@@ -211,7 +223,7 @@ module _ (net : Net) (network : IsNetwork net) (arriving : ℕ → ℕ → ℕ) 
       }
 
 -- a world that stands, seen as `v`, by lists that are those that it keeps
-pub stands-parts : (net : Net) (arriving : ℕ → ℕ → ℕ) (shown : ℕ → ℕ → Option (ℕ × ℕ)) (w v : WorldState) (n : ℕ) (qs rs ws ss : List ℕ) (cs : List LinkTotals)
+pub stands-parts : (net : Net) (arriving : ℕ → ℕ → ℕ) (shown : ℕ → ℕ → Sign) (w v : WorldState) (n : ℕ) (qs rs ws ss : List ℕ) (cs : List LinkTotals)
     → w ≡ v → n ≡ w.nodes → qs ≡ w.queues → rs ≡ w.recent → ws ≡ w.waits → ss ≡ w.stood → cs ≡ w.counts → Stands net arriving shown v
     → Stands net arriving shown (record { second = w.second; nodes = n; queues = qs; recent = rs; waits = ws; stood = ss; counts = cs; totals = w.totals })
 stands-parts net arriving shown w v n qs rs ws ss cs seen a b c d e f stands =
@@ -222,10 +234,10 @@ outward-none None = refl
 outward-none (Some node) = refl
 
 -- before the first second nothing has passed
-past-zero : (net : Net) (arriving : ℕ → ℕ → ℕ) (shown : ℕ → ℕ → Option (ℕ × ℕ)) (n l : ℕ) → cumulative_under net arriving shown 0 n l ≡ nothing
+past-zero : (net : Net) (arriving : ℕ → ℕ → ℕ) (shown : ℕ → ℕ → Sign) (n l : ℕ) → cumulative_under net arriving shown 0 n l ≡ nothing
 past-zero net arriving shown n l = rw (same-history net arriving shown 0) (zero-by net (flowing net arriving shown) n l)
 
-pub stands-new : (net : Net) (arriving : ℕ → ℕ → ℕ) (shown : ℕ → ℕ → Option (ℕ × ℕ)) (w : WorldState) → w.second ≡ 0 → HasShape net w → ((k : ℕ) → get_or w.queues k 0 ≡ 0) → ((k : ℕ) → get_or w.recent k 0 ≡ 0) → ((k : ℕ) → get_or w.waits k 0 ≡ 0) → ((k : ℕ) → get_or w.stood k 0 ≡ 0)
+pub stands-new : (net : Net) (arriving : ℕ → ℕ → ℕ) (shown : ℕ → ℕ → Sign) (w : WorldState) → w.second ≡ 0 → HasShape net w → ((k : ℕ) → get_or w.queues k 0 ≡ 0) → ((k : ℕ) → get_or w.recent k 0 ≡ 0) → ((k : ℕ) → get_or w.waits k 0 ≡ 0) → ((k : ℕ) → get_or w.stood k 0 ≡ 0)
     → ((k : ℕ) → counts_at w.counts k ≡ no_totals) → w.totals ≡ record { entered = 0; left = 0; on = 0; delay = 0 } → Stands net arriving shown w
 stands-new net arriving shown w at shape qs rs ws ss cs ts =
     let P : ℕ → ℕ → Cumulative = cumulative_under net arriving shown w.second in
@@ -250,7 +262,7 @@ stands-new net arriving shown w at shape qs rs ws ss cs ts =
     }
 
 -- a timeline counts only by what it shows in the seconds below now
-pub stands-under : (net : Net) (arriving : ℕ → ℕ → ℕ) (shown seen : ℕ → ℕ → Option (ℕ × ℕ)) (w : WorldState) → ((x node : ℕ) → x < w.second → shown x node ≡ seen x node) → Stands net arriving shown w → Stands net arriving seen w
+pub stands-under : (net : Net) (arriving : ℕ → ℕ → ℕ) (shown seen : ℕ → ℕ → Sign) (w : WorldState) → ((x node : ℕ) → x < w.second → shown x node ≡ seen x node) → Stands net arriving shown w → Stands net arriving seen w
 stands-under net arriving shown seen w same stands =
     let e = history-same net arriving arriving shown seen w.second (λ x l h. refl) same in
     record {

@@ -21,7 +21,7 @@ use Rattle.arrivals.specs.Amounts.{arriving_of}
 use Rattle.net_simulator.specs.LinkSeconds.{seen_by}
 use Rattle.net_simulator.specs.Senses.{coming, stood, link_sense, near_of, near_on, sense}
 use Rattle.net_simulator.specs.Sums.{on_road}
-use Rattle.net_simulator.specs.Worlds.{Keeps, Stands, WorldState, IsWorldOf, standing_by}
+use Rattle.net_simulator.specs.Worlds.{Keeps, Stands, WorldState, IsWorldOf, signs_by}
 use Rattle.net_simulator.proofs.Sums.{range-same, total-part, total-without, without, without-other}
 use Rattle.road_net.proofs.TotalLaws.{total-le}
 use Rattle.net_simulator.proofs.Sound.{IsSound}
@@ -178,10 +178,10 @@ are-sensed net node n past early sound most below rising = record {
   amounts = omega (arith, sensed-on net past n sound (entry_links net node) (AllPairs-from_increasing (entry_links net node) rising) below, most);
 }
 
-pub is-sensed : (net : Net) (node : ℕ) (w : WorldState) → IsNetwork net → All (λ l. l < length net.link_names) (entry_links net node) → IsStrictlyIncreasing (entry_links net node) → (world : IsWorldOf net w) → IsSensedOf net node (sense net (cumulative_under net (arriving_of world.arrivals) (standing_by world.lines) w.second) w.second node)
+pub is-sensed : (net : Net) (node : ℕ) (w : WorldState) → IsNetwork net → All (λ l. l < length net.link_names) (entry_links net node) → IsStrictlyIncreasing (entry_links net node) → (world : IsWorldOf net w) → IsSensedOf net node (sense net (cumulative_under net (arriving_of world.arrivals) (signs_by world.lines) w.second) w.second node)
 is-sensed net node w network below rising world =
-    are-sensed net node w.second (cumulative_under net (arriving_of world.arrivals) (standing_by world.lines) w.second) world.stands.by (sound-at net network (arriving_of world.arrivals) (standing_by world.lines) w.second)
-    (on-road-most net network (arriving_of world.arrivals) (standing_by world.lines) (few-of net network world.arrivals world.enter) w.second) below rising
+    are-sensed net node w.second (cumulative_under net (arriving_of world.arrivals) (signs_by world.lines) w.second) world.stands.by (sound-at net network (arriving_of world.arrivals) (signs_by world.lines) w.second)
+    (on-road-most net network (arriving_of world.arrivals) (signs_by world.lines) (few-of net network world.arrivals world.enter) w.second) below rising
 
 pub below-names : (net : Net) (links names : List ℕ) → IsNetwork net → links ≡ names → All (λ l. l < length net.links) links → All (λ l. l < length net.link_names) names
 below-names net links names network is have = subst (All (λ l. l < length net.link_names)) is (λ k d h. let b = have k d h in let count = network.outline.road_count in omega arith)
@@ -194,8 +194,8 @@ gathered-by net node n past qs rs ws ss links out network keeps standing entries
     λ i. record { now = n; links = senses i }
 
 pub gathered : (net : Net) (node : ℕ) (w v : WorldState) (qs rs ss links : List ℕ) (out : List LinkSense) → IsNetwork net → v ≡ w → qs ≡ v.queues → rs ≡ v.recent → ss ≡ v.stood → links ≡ entry_links net node → out ≡ map (seen_by net qs rs ss v.second) links
-    → All (λ l. l < length net.link_names) (entry_links net node) → (arriving : ℕ → ℕ → ℕ) (lines : ℕ → List Green) → Stands net arriving (standing_by lines) w
-    → (let s : Sensed = record { now = v.second; links = out } in s) ≡ sense net (cumulative_under net arriving (standing_by lines) w.second) w.second node
+    → All (λ l. l < length net.link_names) (entry_links net node) → (arriving : ℕ → ℕ → ℕ) (lines : ℕ → List Green) → Stands net arriving (signs_by lines) w
+    → (let s : Sensed = record { now = v.second; links = out } in s) ≡ sense net (cumulative_under net arriving (signs_by lines) w.second) w.second node
 gathered net node w v qs rs ss links out network view queues recent standing entries all below arriving lines stands =
     let one = queues ∙ ap (λ (k : WorldState). k.queues) view in
     let two = recent ∙ ap (λ (k : WorldState). k.recent) view in
@@ -203,29 +203,29 @@ gathered net node w v qs rs ss links out network view queues recent standing ent
     let now = ap (λ (k : WorldState). k.second) view in
     let gathers : out ≡ map (seen_by net w.queues w.recent w.stood w.second) links = all ∙ (λ i. map (seen_by net (one i) (two i) (three i) (now i)) links) in
     let second : (let s : Sensed = record { now = v.second; links = out } in s) ≡ (let t : Sensed = record { now = w.second; links = out } in t) = λ i. record { now = now i; links = out } in
-    second ∙ gathered-by net node w.second (cumulative_under net arriving (standing_by lines) w.second) w.queues w.recent w.waits w.stood links out network stands.keeps stands.stood entries gathers below
+    second ∙ gathered-by net node w.second (cumulative_under net arriving (signs_by lines) w.second) w.queues w.recent w.waits w.stood links out network stands.keeps stands.stood entries gathers below
 
 -- what is near by what a world keeps is what the definition gives
 pub near-gathered : (net : Net) (w v : WorldState) (qs rs ss : List ℕ) (gap l : ℕ) → IsNetwork net → v ≡ w → qs ≡ v.queues → rs ≡ v.recent → ss ≡ v.stood → l < length net.link_names
-    → (arriving : ℕ → ℕ → ℕ) (lines : ℕ → List Green) → Stands net arriving (standing_by lines) w → near_of (seen_by net qs rs ss v.second l) gap ≡ near_on net (cumulative_under net arriving (standing_by lines) w.second) w.second gap l
+    → (arriving : ℕ → ℕ → ℕ) (lines : ℕ → List Green) → Stands net arriving (signs_by lines) w → near_of (seen_by net qs rs ss v.second l) gap ≡ near_on net (cumulative_under net arriving (signs_by lines) w.second) w.second gap l
 near-gathered net w v qs rs ss gap l network view queues recent standing inside arriving lines stands =
     let one = queues ∙ ap (λ (k : WorldState). k.queues) view in
     let two = recent ∙ ap (λ (k : WorldState). k.recent) view in
     let three = standing ∙ ap (λ (k : WorldState). k.stood) view in
     let now = ap (λ (k : WorldState). k.second) view in
     (λ i. near_of (seen_by net (one i) (two i) (three i) (now i) l) gap)
-    ∙ ap (λ (s : LinkSense). near_of s gap) (seen-same net (cumulative_under net arriving (standing_by lines) w.second) w.queues w.recent w.waits w.stood w.second l stands.keeps (stands.stood l inside) inside ((bounds-of net network).most l inside))
+    ∙ ap (λ (s : LinkSense). near_of s gap) (seen-same net (cumulative_under net arriving (signs_by lines) w.second) w.queues w.recent w.waits w.stood w.second l stands.keeps (stands.stood l inside) inside ((bounds-of net network).most l inside))
 
 -- and fits
 pub near-fits : (net : Net) (w : WorldState) (gap l : ℕ) → IsNetwork net → (world : IsWorldOf net w) → l < length net.link_names
-    → near_on net (cumulative_under net (arriving_of world.arrivals) (standing_by world.lines) w.second) w.second gap l ≤ 2000000000
+    → near_on net (cumulative_under net (arriving_of world.arrivals) (signs_by world.lines) w.second) w.second gap l ≤ 2000000000
 near-fits net w gap l network world inside =
-    near-few net (cumulative_under net (arriving_of world.arrivals) (standing_by world.lines) w.second) w.second (sound-at net network (arriving_of world.arrivals) (standing_by world.lines) w.second) gap l
-    (on-road-most net network (arriving_of world.arrivals) (standing_by world.lines) (few-of net network world.arrivals world.enter) w.second) inside
+    near-few net (cumulative_under net (arriving_of world.arrivals) (signs_by world.lines) w.second) w.second (sound-at net network (arriving_of world.arrivals) (signs_by world.lines) w.second) gap l
+    (on-road-most net network (arriving_of world.arrivals) (signs_by world.lines) (few-of net network world.arrivals world.enter) w.second) inside
 
 -- and so does what is near on all links
 pub near-all-fits : (net : Net) (w : WorldState) (gap : ℕ) → IsNetwork net → (world : IsWorldOf net w)
-    → total (near_on net (cumulative_under net (arriving_of world.arrivals) (standing_by world.lines) w.second) w.second gap) (length net.link_names) ≤ 2000000000
+    → total (near_on net (cumulative_under net (arriving_of world.arrivals) (signs_by world.lines) w.second) w.second gap) (length net.link_names) ≤ 2000000000
 near-all-fits net w gap network world =
-    near-road net (cumulative_under net (arriving_of world.arrivals) (standing_by world.lines) w.second) w.second (sound-at net network (arriving_of world.arrivals) (standing_by world.lines) w.second) gap
-    (on-road-most net network (arriving_of world.arrivals) (standing_by world.lines) (few-of net network world.arrivals world.enter) w.second)
+    near-road net (cumulative_under net (arriving_of world.arrivals) (signs_by world.lines) w.second) w.second (sound-at net network (arriving_of world.arrivals) (signs_by world.lines) w.second) gap
+    (on-road-most net network (arriving_of world.arrivals) (signs_by world.lines) (few-of net network world.arrivals world.enter) w.second)

@@ -8,8 +8,9 @@ use Rattle.net_simulator.specs.Flow.{Cumulative, nothing, total_reached, waiting
 use Rattle.net_simulator.specs.Moves.{Moves, moved}
 use Rattle.net_simulator.proofs.MoveLaws.{flowing, cumulative_by, moves_by, kept-by, next-by, none-by}
 use Rattle.net_simulator.proofs.FlowLaws.{past-kept, past-next, past-none}
+use Rattle.control_flow.specs.declared.greens.Sign.{Sign}
 
-pub discharge_to-most : (net : Net) (shown : ℕ → Option (ℕ × ℕ)) (past : ℕ → ℕ → Cumulative) (x l : ℕ) (to : Option ℕ) → discharge_to net shown past x l to ≤ waiting net past x l
+pub discharge_to-most : (net : Net) (shown : ℕ → Sign) (past : ℕ → ℕ → Cumulative) (x l : ℕ) (to : Option ℕ) → discharge_to net shown past x l to ≤ waiting net past x l
 discharge_to-most net shown past x l None = omega arith
 discharge_to-most net shown past x l (Some node) = cond_both (may_go net past x l node (shown node)) (min (link_at net l).sat (waiting net past x l)) 0 (λ n. n ≤ waiting net past x l) (λ e. omega arith) (λ e. omega arith)
 
@@ -41,10 +42,10 @@ rule-moved net rule most = record {
 }
 
 -- what moves in the world that stands
-abbrev pub flows : Net → (ℕ → ℕ → ℕ) → (ℕ → ℕ → Option (ℕ × ℕ)) → ℕ → Moves
+abbrev pub flows : Net → (ℕ → ℕ → ℕ) → (ℕ → ℕ → Sign) → ℕ → Moves
 flows net arriving shown x = flowing net arriving shown (history net arriving shown x) x
 
-pub flow-moved : (net : Net) (arriving : ℕ → ℕ → ℕ) (shown : ℕ → ℕ → Option (ℕ × ℕ)) → AreMoved net (flows net arriving shown) (cumulative_under net arriving shown)
+pub flow-moved : (net : Net) (arriving : ℕ → ℕ → ℕ) (shown : ℕ → ℕ → Sign) → AreMoved net (flows net arriving shown) (cumulative_under net arriving shown)
 flow-moved net arriving shown = record {
   first = past-none net arriving shown 0;
   next = λ x. record { kept = past-kept net arriving shown x; next = past-next net arriving shown x };

@@ -3,16 +3,17 @@ use Rattle.std.specs.Prelude.{ℕ, ◌+◌, ◌*◌, ◌≤◌, min, if◌then�
 use Rattle.net_parts.specs.Limits.{most_of_all}
 use Rattle.net_parts.specs.Numbers.{Net}
 use Rattle.net_parts.specs.Outline.{link_at}
-use Rattle.control_flow.specs.declared.greens.Green.{Green}
+use Rattle.control_flow.specs.declared.greens.Sign.{Sign}
+use Rattle.control_flow.specs.declared.greens.Sign.TheVariants.{Dark}
 use Rattle.road_net.specs.Totals.{total}
 use Rattle.net_simulator.specs.LinkSeconds.{is_open}
 use Rattle.net_simulator.specs.Sums.{outward}
 use Rattle.net_simulator.specs.declared.totals.LinkTotals.{LinkTotals}
 
 -- what link l discharges of what waits at its end
-abbrev pub goes : Net → List (Option Green) → List ℕ → ℕ → ℕ → ℕ → Option ℕ → ℕ
-goes net greens waits x l waiting None = waiting
-goes net greens waits x l waiting (Some node) = if is_open net waits x l node (slice_index_or greens node None) then min (link_at net l).sat waiting else 0
+abbrev pub goes : Net → List Sign → List ℕ → ℕ → ℕ → ℕ → Option ℕ → ℕ
+goes net signs waits x l waiting None = waiting
+goes net signs waits x l waiting (Some node) = if is_open net waits x l node (slice_index_or signs node Dark) then min (link_at net l).sat waiting else 0
 
 -- what leaves the network, where links discharge this
 abbrev pub goes_out : Net → List ℕ → ℕ

@@ -1,9 +1,10 @@
 -- What a world stands for.
-use Rattle.std.specs.Prelude.{◌≡◌, ℕ, ◌+◌, ◌-◌, ◌*◌, ◌<◌, ◌≤◌, List, [], Option, length, slice_index, slice_index_or}
+use Rattle.std.specs.Prelude.{◌≡◌, ℕ, ◌+◌, ◌-◌, ◌*◌, ◌<◌, ◌≤◌, List, [], length, slice_index, slice_index_or}
 use Rattle.net_parts.specs.Limits.{most_seconds, most_travel}
 use Rattle.net_parts.specs.Numbers.{Net}
 use Rattle.control_flow.specs.declared.greens.Green.{Green}
-use Rattle.control_flow.specs.Greens.{standing}
+use Rattle.control_flow.specs.Signs.{sign_at}
+use Rattle.control_flow.specs.declared.greens.Sign.{Sign}
 use Rattle.net_simulator.specs.Flow.{Cumulative, queue, cumulative_under}
 use Rattle.arrivals.specs.Amounts.{Amounts, AreArrivals, arriving_of}
 use Rattle.net_simulator.specs.Sums.{link_totals, totals}
@@ -17,9 +18,9 @@ use Rattle.net_simulator.specs.declared.totals.Totals.{Totals}
 abbrev pub line_in : List (List Green) → ℕ → List Green
 line_in lines node = slice_index_or lines node []
 
--- which phase is green in a second at a node, and since when, where each node has a timeline
-abbrev pub standing_by : (ℕ → List Green) → ℕ → ℕ → Option (ℕ × ℕ)
-standing_by lines x node = standing (lines node) x
+-- the sign of a node in a second, where each node has a timeline
+abbrev pub signs_by : (ℕ → List Green) → ℕ → ℕ → Sign
+signs_by lines x node = sign_at (lines node) x
 
 -- what a world keeps: its second, how many nodes its network has, and for each link its queue, rows of what entered it and of
 -- its queues, for how long a queue has stood, and what is counted
@@ -50,7 +51,7 @@ pub record Keeps (net : Net) (past : ℕ → ℕ → Cumulative) (qs rs ws : Lis
   pub waits : (l d : ℕ) → l < length net.link_names → d ≤ most_travel → cell ws l (x + kept_seconds - d) ≡ queue net past (x - d) l
 
 -- All that a world keeps is what the definition gives for a network, arrivals and what is shown over the seconds below its own.
-pub record Stands (net : Net) (arriving : ℕ → ℕ → ℕ) (shown : ℕ → ℕ → Option (ℕ × ℕ)) (w : WorldState) : Type 0 where
+pub record Stands (net : Net) (arriving : ℕ → ℕ → ℕ) (shown : ℕ → ℕ → Sign) (w : WorldState) : Type 0 where
   pub shape : HasShape net w
   pub by : w.second ≤ most_seconds
   pub keeps : Keeps net (cumulative_under net arriving shown w.second) w.queues w.recent w.waits w.second
@@ -63,4 +64,4 @@ pub record IsWorldOf (net : Net) (w : WorldState) : Type 0 where
   pub arrivals : Amounts
   pub lines : ℕ → List Green
   pub enter : AreArrivals net arrivals
-  pub stands : Stands net (arriving_of arrivals) (standing_by lines) w
+  pub stands : Stands net (arriving_of arrivals) (signs_by lines) w

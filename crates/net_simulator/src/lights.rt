@@ -1,6 +1,6 @@
 //! What the signals show.
 
-use control_flow::greens::Green;
+use control_flow::greens::Sign;
 
 /// What the signals of a network show: each node has a timeline.
 ///
@@ -8,13 +8,13 @@ use control_flow::greens::Green;
 pub trait Lights {
     ghost use Rattle.std.specs.Prelude.{◌≡◌, ℕ, List};
     ghost use Rattle.control_flow.specs.declared.greens.Green.{Green};
-    ghost use Rattle.control_flow.specs.Greens.{green_at};
+    ghost use Rattle.control_flow.specs.Signs.{sign_at};
 
     ghost lines: { Self → ℕ → List Green };
 
-    /// The green that a node shows in a second: the first row of its timeline that covers the second, if any does.
+    /// The sign of a node in a second, by its timeline.
     ///
-    /// docs/RULES.md, "Timeline".
-    fn green(&self, node: u32, second: u32) -> Option<Green>
-        ensures { result ≡ green_at (lines self.now node) second };
+    /// docs/RULES.md, "Signs".
+    fn sign(&self, node: u32, second: u32) -> Sign
+        ensures { result ≡ sign_at (lines self.now node) second };
 }

@@ -4,17 +4,17 @@ ghost use Rattle.std.specs.Prelude.{◌≡◌, ◌≤◌, IfOk};
 ghost use Rattle.net_parts.specs.Limits.{most_seconds};
 ghost use Rattle.arrivals.specs.Amounts.{AreArrivals, arriving_of};
 ghost use Rattle.net_simulator.specs.Sums as sums;
-ghost use Rattle.net_simulator.specs.Worlds.{Stands, line_in, standing_by};
+ghost use Rattle.net_simulator.specs.Worlds.{Stands, line_in, signs_by};
 
 use super::lights::Lights;
 use super::world::World;
 use arrivals::Arrivals;
-use control_flow::green_at;
-use control_flow::greens::{Green, Timeline};
+use control_flow::greens::{Sign, Timeline};
+use control_flow::sign_at;
 use road_net::Network;
 use std::alloc::{AllocError, Global};
 
-/// Timelines, by node; a node without one shows no green.
+/// Timelines, by node; a node without one is dark.
 ///
 /// docs/RULES.md, "Timeline".
 #[derive(Drop)]
@@ -28,11 +28,11 @@ impl<'a> Lights for Lines<'a> {
 
     ghost lines = { λ lines node. line_in lines.all.now node };
 
-    fn green(&self, node: u32, second: u32) -> Option<Green> {
+    fn sign(&self, node: u32, second: u32) -> Sign {
         if node as usize >= self.all.len() {
-            return None;
+            return Sign::Dark;
         }
-        green_at(&self.all[node as usize], second)
+        sign_at(&self.all[node as usize], second)
     }
 }
 
@@ -51,7 +51,7 @@ pub fn play<'a>(
     requires second { seconds ≤ most_seconds }
     requires arrivals { AreArrivals net.now arrivals.now }
     ensures second { IfOk result (λ world. world.second ≡ seconds) }
-    ensures stands { IfOk result (Stands net.now (arriving_of arrivals.now) (standing_by (line_in lines.now.all.now))) }
+    ensures stands { IfOk result (Stands net.now (arriving_of arrivals.now) (signs_by (line_in lines.now.all.now))) }
 {
     let mut world = World::new(alloc, net)?;
     world.advance(net, lines, arrivals, seconds);

@@ -2,34 +2,35 @@
 //!
 //! They work on the slices that a world keeps, a number for each link, or a row of 128 seconds for each (`rows`).
 
-ghost use Rattle.std.specs.Prelude.{◌≡◌, ◌≢◌, ℕ, ◌*◌, ◌%◌, ◌≤◌, ◌<◌, ◌^◌, None, Some, IfSome, length, slice_index, slice_index_or};
+ghost use Rattle.std.specs.Prelude.{◌≡◌, ◌≢◌, ℕ, ◌*◌, ◌%◌, ◌≤◌, ◌<◌, ◌^◌, None, Some, length, slice_index, slice_index_or};
 ghost use Rattle.net_parts.specs.Limits.{most_seconds};
-ghost use Rattle.control_flow.specs.Greens.{green_at};
+ghost use Rattle.control_flow.specs.Signs.{sign_at};
+ghost use Rattle.control_flow.specs.declared.greens.Sign.TheVariants.{Dark};
 ghost use Rattle.net_parts.specs.Outline.{link_at};
-ghost use Rattle.net_simulator.specs.LinkSeconds.{is_open, stands_on, waits_at};
+ghost use Rattle.net_simulator.specs.LinkSeconds.{HasBegun, is_open, stands_on, waits_at};
 ghost use Rattle.net_simulator.specs.Rows.{cell, kept_seconds};
 ghost use Rattle.net_simulator.specs.Sums.{outward};
 
 use super::lights::Lights;
 use super::rows;
-use control_flow::greens::Green;
+use control_flow::greens::Sign;
 use road_net::Network;
 
-/// Looks once at the light of each node: `greens` gets what the nodes show in this second, in their order.
+/// Looks once at the light of each node: `signs` gets the signs of the nodes in this second, in their order.
 ///
 /// docs/RULES.md, "World".
-pub fn look<T: Lights>(greens: &mut [Option<Green>], net: &Network, lights: &T, second: u32)
-    requires { length greens.old ≡ length net.now.node_names }
+pub fn look<T: Lights>(signs: &mut [Sign], net: &Network, lights: &T, second: u32)
+    requires { length signs.old ≡ length net.now.node_names }
     ensures { (n : ℕ) → n < length net.now.node_names
-        → slice_index_or greens.new n None ≡ green_at (T.lines lights.now n) second }
+        → slice_index_or signs.new n Dark ≡ sign_at (T.lines lights.now n) second }
 {
     for node in 0..net.nodes() {
-        greens[node as usize] = lights.green(node, second);
+        signs[node as usize] = lights.sign(node, second);
     }
 }
 
-/// Whether link `l` may discharge in this second, where its node shows this green: it is of the link's phase, and the second
-/// is not one that is lost at its begin. `waits` has the queues of each link before each of the last seconds (`rows`).
+/// Whether link `l` may discharge in this second, where its node shows this sign: the link's phase is green, and the second
+/// is not one that is lost at the begin of the green. `waits` has the queues of each link before each of the last seconds (`rows`).
 ///
 /// docs/RULES.md, "World".
 #[inline]
@@ -39,22 +40,22 @@ pub fn is_open(
     second: u32,
     l: u32,
     node: u32,
-    green: Option<Green>,
+    sign: Sign,
 ) -> bool
     requires link { l < length net.now.link_names }
     requires node { (link_at net.now l).to ≡ Some node }
     requires waits { length waits.now ≡ length net.now.link_names * kept_seconds }
-    requires begun { IfSome green (λ g. g.from ≤ second) }
-    ensures { result ≡ is_open net.now waits.now second l node green }
+    requires begun { HasBegun second sign }
+    ensures { result ≡ is_open net.now waits.now second l node sign }
 {
-    let Some(green) = green else {
+    let Sign::On { phase, since } = sign else {
         return false;
     };
-    if green.phase != net.link(l).phase {
+    if phase != net.link(l).phase {
         return false;
     }
-    let loss = net.plan(node).phase(green.phase).loss;
-    second - green.from >= loss || rows::at(waits, l, green.from) == 0
+    let loss = net.plan(node).phase(phase).loss;
+    second - since >= loss || rows::at(waits, l, since) == 0
 }
 
 /// What waits at the end of link `l` in a second below 18,000, in thousandths of a vehicle: its queue, and what entered it one

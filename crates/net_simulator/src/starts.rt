@@ -1,8 +1,9 @@
 //! Lists with which a world begins.
 
-ghost use Rattle.std.specs.Prelude.{◌≡◌, None, IfOk, replicate};
+ghost use Rattle.std.specs.Prelude.{◌≡◌, IfOk, replicate};
+ghost use Rattle.control_flow.specs.declared.greens.Sign.TheVariants.{Dark};
 
-use control_flow::greens::Green;
+use control_flow::greens::Sign;
 use std::alloc::{AllocError, Global};
 
 /// `n` zeros, in thousandths of a vehicle or in seconds. `Err`: out of memory.
@@ -14,12 +15,11 @@ pub fn zeros(alloc: Global, n: usize) -> Result<Vec<u32>, AllocError>
     vec![in alloc; 0; n]
 }
 
-/// A place for what each of `n` nodes shows, none of which shows a green. `Err`: out of memory.
+/// The signs of `n` dark nodes. `Err`: out of memory.
 ///
 /// docs/RULES.md, "World".
-pub fn no_greens(alloc: Global, n: usize) -> Result<Vec<Option<Green>>, AllocError>
-    ensures { IfOk result (λ v. v.items ≡ replicate n None) }
+pub fn no_signs(alloc: Global, n: usize) -> Result<Vec<Sign>, AllocError>
+    ensures { IfOk result (λ v. v.items ≡ replicate n Dark) }
 {
-    let none: Option<Green> = None;
-    vec![in alloc; none; n]
+    vec![in alloc; Sign::Dark; n]
 }

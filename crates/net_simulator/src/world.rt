@@ -1,25 +1,27 @@
 //! The world.
 
-ghost use Rattle.std.specs.Prelude.{◌≡◌, ℕ, ◌+◌, ◌≤◌, ◌<◌, None, Option, IfOk, List, length, replicate, slice_index_or};
+ghost use Rattle.std.specs.Prelude.{◌≡◌, ℕ, ◌+◌, ◌≤◌, ◌<◌, IfOk, List, length, replicate, slice_index_or};
 ghost use Rattle.net_parts.specs.Limits.{most_seconds};
 ghost use Rattle.arrivals.specs.Amounts.{Amounts, AreArrivals, arriving_of};
 ghost use Rattle.control_flow.specs.declared.greens.Green.{Green};
-ghost use Rattle.control_flow.specs.Greens.{green_at, standing};
+ghost use Rattle.control_flow.specs.Signs.{sign_at};
+ghost use Rattle.control_flow.specs.declared.greens.Sign.{Sign};
+ghost use Rattle.control_flow.specs.declared.greens.Sign.TheVariants.{Dark};
 ghost use Rattle.net_parts.specs.Numbers.{Net};
 ghost use Rattle.net_simulator.specs.Counts.{counts_at, no_totals, IsBalanced};
 ghost use Rattle.net_simulator.specs.Flow.{cumulative_under};
 ghost use Rattle.net_simulator.specs.Senses.{near_on, sense};
-ghost use Rattle.net_simulator.specs.Worlds.{WorldState, Stands, IsWorldOf, standing_by};
+ghost use Rattle.net_simulator.specs.Worlds.{WorldState, Stands, IsWorldOf, signs_by};
 ghost use Rattle.road_net.specs.Senses.{IsSensedOf};
 
 use super::lights::Lights;
 use super::link_seconds::{look, remember};
 use super::seconds;
 use super::sensing::{Sight, near_amount, sense_links};
-use super::starts::{no_greens, zeros};
+use super::starts::{no_signs, zeros};
 use super::totals::{LinkTotals, Totals};
 use arrivals::Arrivals;
-use control_flow::greens::Green;
+use control_flow::greens::Sign;
 use foundation::items::Items;
 use foundation::threads::CrossesThreads;
 use road_net::{LinkSense, Network, Sensed, law_of_network};
@@ -39,7 +41,7 @@ pub struct World {
     recent: Vec<u32>,
     waits: Vec<u32>,
     stood: Vec<u32>,
-    greens: Vec<Option<Green>>,
+    signs: Vec<Sign>,
     leaving: Vec<u32>,
     counts: Vec<LinkTotals>,
     totals: Totals,
@@ -54,7 +56,7 @@ impl Model for World {
 
     ghost view = { λ w. record {
       second = w.second;
-      nodes = length w.greens.items;
+      nodes = length w.signs.items;
       queues = w.queues.items;
       recent = w.recent.items;
       waits = w.waits.items;
@@ -76,7 +78,7 @@ impl World {
     /// docs/RULES.md, "World".
     pub fn new(alloc: Global, net: &Network) -> Result<World, AllocError>
         ensures second { IfOk result (λ w. w.second ≡ 0) }
-        ensures stands { (arriving : ℕ → ℕ → ℕ) (shown : ℕ → ℕ → Option (ℕ × ℕ))
+        ensures stands { (arriving : ℕ → ℕ → ℕ) (shown : ℕ → ℕ → Sign)
             → IfOk result (λ w. Stands net.now arriving shown w) }
     {
         let links = net.links() as usize;
@@ -86,14 +88,14 @@ impl World {
         let stood = zeros(alloc, links)?;
         let leaving = zeros(alloc, links)?;
         let counts = no_counts(alloc, links)?;
-        let greens = no_greens(alloc, net.nodes() as usize)?;
+        let signs = no_signs(alloc, net.nodes() as usize)?;
         Ok(World {
             second: 0,
             queues,
             recent,
             waits,
             stood,
-            greens,
+            signs,
             leaving,
             counts,
             totals: Totals {
@@ -143,9 +145,9 @@ impl World {
         requires world { IsWorldOf net.now self.now }
         ensures sensed { IfOk result (IsSensedOf net.now node) }
         ensures value { (arriving : ℕ → ℕ → ℕ) (lines : ℕ → List Green)
-            → Stands net.now arriving (standing_by lines) self.now
+            → Stands net.now arriving (signs_by lines) self.now
             → IfOk result (λ s. s ≡
-            sense net.now (cumulative_under net.now arriving (standing_by lines) self.now.second)
+            sense net.now (cumulative_under net.now arriving (signs_by lines) self.now.second)
             self.now.second node) }
     {
         self.sense_again(alloc, net, node, Vec::new(alloc))
@@ -168,9 +170,9 @@ impl World {
         requires world { IsWorldOf net.now self.now }
         ensures sensed { IfOk result (IsSensedOf net.now node) }
         ensures value { (arriving : ℕ → ℕ → ℕ) (lines : ℕ → List Green)
-            → Stands net.now arriving (standing_by lines) self.now
+            → Stands net.now arriving (signs_by lines) self.now
             → IfOk result (λ s. s ≡
-            sense net.now (cumulative_under net.now arriving (standing_by lines) self.now.second)
+            sense net.now (cumulative_under net.now arriving (signs_by lines) self.now.second)
             self.now.second node) }
     {
         let sight = Sight {
@@ -196,8 +198,8 @@ impl World {
         requires link { link < length net.now.link_names }
         requires world { IsWorldOf net.now self.now }
         ensures { (arriving : ℕ → ℕ → ℕ) (lines : ℕ → List Green)
-            → Stands net.now arriving (standing_by lines) self.now
-            → result ≡ near_on net.now (cumulative_under net.now arriving (standing_by lines) self.now.second)
+            → Stands net.now arriving (signs_by lines) self.now
+            → result ≡ near_on net.now (cumulative_under net.now arriving (signs_by lines) self.now.second)
             self.now.second gap link }
     {
         law_of_network(net);
@@ -223,9 +225,9 @@ impl World {
     )
         requires second { self.old.second + seconds ≤ most_seconds }
         requires arrivals { AreArrivals net.now arrivals.now }
-        requires stands { Stands net.now (arriving_of arrivals.now) (standing_by (T.lines lights.now)) self.old }
+        requires stands { Stands net.now (arriving_of arrivals.now) (signs_by (T.lines lights.now)) self.old }
         ensures second { self.new.second ≡ self.old.second + seconds }
-        ensures stands { Stands net.now (arriving_of arrivals.now) (standing_by (T.lines lights.now)) self.new }
+        ensures stands { Stands net.now (arriving_of arrivals.now) (signs_by (T.lines lights.now)) self.new }
     {
         for _i in 0..seconds {
             self.pass(net, lights, arrivals);
@@ -236,16 +238,16 @@ impl World {
     fn pass<T: Lights>(&mut self, net: &Network, lights: &T, arrivals: &Arrivals)
         requires second { self.old.second < most_seconds }
         requires arrivals { AreArrivals net.now arrivals.now }
-        requires stands { Stands net.now (arriving_of arrivals.now) (standing_by (T.lines lights.now)) self.old }
+        requires stands { Stands net.now (arriving_of arrivals.now) (signs_by (T.lines lights.now)) self.old }
         ensures second { self.new.second ≡ self.old.second + 1 }
-        ensures stands { Stands net.now (arriving_of arrivals.now) (standing_by (T.lines lights.now)) self.new }
+        ensures stands { Stands net.now (arriving_of arrivals.now) (signs_by (T.lines lights.now)) self.new }
     {
         let x = self.second;
-        look(self.greens.as_mut_slice(), net, lights, x);
+        look(self.signs.as_mut_slice(), net, lights, x);
         let moment = Moment {
             net,
             lights,
-            greens: self.greens.as_slice(),
+            signs: self.signs.as_slice(),
             arrivals,
             totals: self.totals,
             second: x,
@@ -269,7 +271,7 @@ impl World {
 struct Moment<'a, T> {
     net: &'a Network,
     lights: &'a T,
-    greens: &'a [Option<Green>],
+    signs: &'a [Sign],
     arrivals: &'a Arrivals,
     totals: Totals,
     second: u32,
@@ -288,12 +290,12 @@ fn pass_second<T: Lights>(
     requires second { moment.now.second < most_seconds }
     requires leaving { length leaving.old ≡ length queues.old }
     requires arrivals { AreArrivals moment.now.net.now moment.now.arrivals.now }
-    requires greens { (n : ℕ) → n < length moment.now.net.now.node_names
-        → slice_index_or moment.now.greens.now n None ≡ green_at (T.lines moment.now.lights.now n) moment.now.second }
+    requires signs { (n : ℕ) → n < length moment.now.net.now.node_names
+        → slice_index_or moment.now.signs.now n Dark ≡ sign_at (T.lines moment.now.lights.now n) moment.now.second }
     requires stands { Stands moment.now.net.now (arriving_of moment.now.arrivals.now)
-        (standing_by (T.lines moment.now.lights.now)) (record {
+        (signs_by (T.lines moment.now.lights.now)) (record {
           second = moment.now.second;
-          nodes = length moment.now.greens.now;
+          nodes = length moment.now.signs.now;
           queues = queues.old;
           recent = recent.old;
           waits = waits.old;
@@ -303,9 +305,9 @@ fn pass_second<T: Lights>(
         }) }
     ensures whole { IsBalanced result }
     ensures stands { Stands moment.now.net.now (arriving_of moment.now.arrivals.now)
-        (standing_by (T.lines moment.now.lights.now)) (record {
+        (signs_by (T.lines moment.now.lights.now)) (record {
           second = moment.now.second + 1;
-          nodes = length moment.now.greens.now;
+          nodes = length moment.now.signs.now;
           queues = queues.new;
           recent = recent.new;
           waits = waits.new;
@@ -319,7 +321,7 @@ fn pass_second<T: Lights>(
     let totals = &moment.totals;
     let links = net.links();
     let arriving = seconds::arrive(recent, links, moment.arrivals, x);
-    seconds::leave(leaving, queues, net, recent, waits, moment.greens, x);
+    seconds::leave(leaving, queues, net, recent, waits, moment.signs, x);
     let out = seconds::enter(recent, net, leaving, x);
     remember(waits, stood, queues, links, x + 1);
     let waiting = seconds::count(counts, recent, leaving, queues, links, x);
@@ -333,15 +335,15 @@ fn pass_second<T: Lights>(
     }
 }
 
-/// A timeline counts for a world only by what it shows in the seconds below the world's: which phase is green, and since
-/// when. So a world goes on under timelines that are spliced from its second on.
+/// A timeline counts for a world only by its signs in the seconds below the world's. So a world goes on under timelines that
+/// are spliced from its second on.
 ///
 /// docs/RULES.md, "World".
 pub fn law_of_lights()
     ensures { (net : Net) (arriving : ℕ → ℕ → ℕ) (lines others : ℕ → List Green) (w : WorldState)
-        → Stands net arriving (standing_by lines) w
-        → ((x node : ℕ) → x < w.second → standing (lines node) x ≡ standing (others node) x)
-        → Stands net arriving (standing_by others) w }
+        → Stands net arriving (signs_by lines) w
+        → ((x node : ℕ) → x < w.second → sign_at (lines node) x ≡ sign_at (others node) x)
+        → Stands net arriving (signs_by others) w }
 {}
 
 /// What is counted at second 0 of `links` links.

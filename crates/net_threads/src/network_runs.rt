@@ -1,5 +1,6 @@
 //! The run of a network in threads.
-ghost use Rattle.std.specs.Prelude.{◌≡◌, ℕ, ◌*◌, ◌<◌, ◌≤◌, Option, [], All, IfOk, OnOk, length, vec_capacity, vec_len};
+ghost use Rattle.std.specs.Prelude.{◌≡◌, ℕ, ◌*◌, ◌<◌, ◌≤◌, [], All, IfOk, OnOk, length, vec_capacity, vec_len};
+ghost use Rattle.control_flow.specs.declared.greens.Sign.{Sign};
 ghost use Rattle.arrivals.specs.Amounts.{AreArrivals, arriving_of};
 ghost use Rattle.link_boards.specs.Passes.{AreAllPasses, calls_in};
 ghost use Rattle.net_simulator.specs.Worlds.{Stands};
@@ -52,7 +53,7 @@ fn rounds_of<'a, P: Planner + Drop, S: LinkSlot, G: Gate>(
         × (r.boards.now ≡ boards.now)) }
     ensures new { IfOk result (λ r. AreNew net.now (length net.now.node_names) (actors_in r.nodes.all.items)) }
     ensures second { IfOk result (λ r. r.world.second ≡ 0) }
-    ensures stands { (arriving : ℕ → ℕ → ℕ) (shown : ℕ → ℕ → Option (ℕ × ℕ))
+    ensures stands { (arriving : ℕ → ℕ → ℕ) (shown : ℕ → ℕ → Sign)
         → IfOk result (λ r. Stands net.now arriving shown r.world) }
     ensures of { IfOk result (λ r. AreTasksOf net.now boards.now r.nodes.all.items) }
     ensures plans { IfOk result (λ r. r.plans.items ≡ []) }

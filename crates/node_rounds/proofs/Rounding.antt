@@ -12,7 +12,7 @@ use Rattle.board_model.specs.declared.boards.Heard.{Heard}
 use Rattle.board_model.specs.declared.calls.Call.{Call}
 use Rattle.link_boards.specs.Passes.{BoardsView, PassView, calls_in, highest, raised}
 use Rattle.clusters.specs.Inflow.{IsHeardOf}
-use Rattle.control_flow.specs.Greens.{standing}
+use Rattle.control_flow.specs.Signs.{sign_at}
 use Rattle.control_flow.specs.declared.greens.Green.{Green}
 use Rattle.histories.specs.Steps.{board_steps}
 use Rattle.histories.proofs.Lists.{pairs-nil}
@@ -24,7 +24,7 @@ use Rattle.histories.specs.Calls.{IsRising, step_of}
 use Rattle.net_parts.specs.Numbers.{Net}
 use Rattle.net_simulator.specs.Flow.{cumulative_under}
 use Rattle.net_simulator.specs.Senses.{sense}
-use Rattle.net_simulator.specs.Worlds.{WorldState, Stands, standing_by}
+use Rattle.net_simulator.specs.Worlds.{WorldState, Stands, signs_by}
 use Rattle.node_rounds.specs.Nodes.{IsRoundOf, NodeRound}
 use Rattle.node_rounds.specs.Told.{AreCallsOf}
 use Rattle.road_net.specs.Network.{IsNetwork}
@@ -139,7 +139,7 @@ module _ (net : Net) (network : IsNetwork net) (arrivals : Amounts) (round : ℕ
       sensed-is : (n : ℕ) → n < N → (did n).sensed ≡ sensed_in net (arriving_of arrivals) b.made round n
       sensed-is n below =
           (did-is n below).sensed (arriving_of arrivals) (line_before net b.made round) (before-stands net network (arriving_of arrivals) round b.heard b.made b.most b.commits world b.second b.stands)
-          ∙ ap (λ k. sense net (cumulative_under net (arriving_of arrivals) (standing_by (line_before net b.made round)) world.second) world.second k) (node-is n below)
+          ∙ ap (λ k. sense net (cumulative_under net (arriving_of arrivals) (signs_by (line_before net b.made round)) world.second) world.second k) (node-is n below)
           ∙ sense-is net network (arriving_of arrivals) round b.heard b.made b.most b.commits world b.second n
 
       own-commits : (n : ℕ) → n < N → Commits net (arriving_of arrivals) heard made round n
@@ -300,23 +300,23 @@ module _ (net : Net) (network : IsNetwork net) (arrivals : Amounts) (round : ℕ
       line-is : (n : ℕ) → n < N → lines_of acted n ≡ line_before net made (round + 1) n
       line-is n below = get_or-map (λ (a : Acting). a.line) acted n A [] (omega (arith, played.actors, b.all)) ∙ (rests-own n below).line
 
-      lines-show : (x n : ℕ) → x < (round + 1) * net.run.step → n < N → standing (lines_of acted n) x ≡ shown_by net made x n
+      lines-show : (x n : ℕ) → x < (round + 1) * net.run.step → n < N → sign_at (lines_of acted n) x ≡ shown_by net made x n
       lines-show x n less below =
-          ap (λ (l : List Green). standing l x) (line-is n below)
+          ap (λ (l : List Green). sign_at l x) (line-is n below)
           ∙ before-shows net network (arriving_of arrivals) (round + 1) heard made next-most commits x n less below
 
       next-second : (round + 1) * net.run.step ≡ round * net.run.step + net.run.step
       next-second = omega arith
 
       shown-before : (x m : ℕ) → x < round * net.run.step → shown_by net b.made x m ≡ shown_by net made x m
-      shown-before x m less = ap (λ (c : Commitment). standing c.line x) (made-else (x / net.run.step) m (div_below x net.run.step round network.outline.run.step.0 less))
+      shown-before x m less = ap (λ (c : Commitment). sign_at c.line x) (made-else (x / net.run.step) m (div_below x net.run.step round network.outline.run.step.0 less))
 
-      pub over-before : Stands net (arriving_of arrivals) (standing_by (lines_of acted)) world
-      over-before = stands-same net network (arriving_of arrivals) (shown_by net b.made) (standing_by (lines_of acted)) world
+      pub over-before : Stands net (arriving_of arrivals) (signs_by (lines_of acted)) world
+      over-before = stands-same net network (arriving_of arrivals) (shown_by net b.made) (signs_by (lines_of acted)) world
           (λ x n less below. shown-before x n (omega (arith, b.second)) ∙ sym (lines-show x n (omega (arith, next-second, b.second)) below)) b.stands
 
       -- so the next round can begin
-      pub round-over : AreSamePasses passes called → (moved : WorldState) (next : Vec PlanRecord) → moved.second ≡ world.second + net.run.step → Stands net (arriving_of arrivals) (standing_by (lines_of acted)) moved
+      pub round-over : AreSamePasses passes called → (moved : WorldState) (next : Vec PlanRecord) → moved.second ≡ world.second + net.run.step → Stands net (arriving_of arrivals) (signs_by (lines_of acted)) moved
           → next.items ≡ plans.items ++ records_in acted → vec_capacity plans ≤ vec_capacity next → Between net arrivals boards (round + 1) met rested moved next
       round-over same moved next second stands added grown =
           let now : moved.second ≡ (round + 1) * net.run.step = omega (arith, next-second, second, b.second) in
@@ -327,7 +327,7 @@ module _ (net : Net) (network : IsNetwork net) (arrivals : Amounts) (round : ℕ
             most = omega arith;
             commits = commits;
             second = now;
-            stands = stands-same net network (arriving_of arrivals) (standing_by (lines_of acted)) (shown_by net made) moved (λ x n less below. lines-show x n (omega arith) below) stands;
+            stands = stands-same net network (arriving_of arrivals) (signs_by (lines_of acted)) (shown_by net made) moved (λ x n less below. lines-show x n (omega arith) below) stands;
             all = length-map acted without_records ∙ played.actors ∙ b.all;
             rests = rests;
             planned = plans-next net heard made round plans before-planned acted (played.actors ∙ b.all) records-own next added grown;

@@ -1,5 +1,5 @@
 -- Before the first round.
-use Rattle.std.proofs.Common.{◌≡◌, ℕ, ◌-◌, ◌*◌, ◌<◌, ◌≤◌, List, [], Option, All, length, get_or, vec_capacity, sym, subst, ◌∙◌, inl, inr, arith}
+use Rattle.std.proofs.Common.{◌≡◌, ℕ, ◌-◌, ◌*◌, ◌<◌, ◌≤◌, List, [], All, length, get_or, vec_capacity, sym, subst, ◌∙◌, inl, inr, arith}
 use Rattle.std.specs.Global.{Vec}
 use Rattle.std.proofs.lemmas.Bool.{cases_lt}
 use Rattle.std.proofs.lemmas.List.Elements.{All-nil}
@@ -18,6 +18,7 @@ use Rattle.runs.specs.Resting.{AreNew}
 use Rattle.node_rounds.specs.Rounds.{Between}
 use Rattle.node_rounds.proofs.Passes.{calls-at, calls-past, no_pass}
 use Rattle.runs.proofs.Resting.{new-rest, no_commitment, zero-times}
+use Rattle.control_flow.specs.declared.greens.Sign.{Sign}
 
 -- passes without a call have none
 no-calls : (boards : BoardsView) (passes : List PassView) → All (λ (p : PassView). p.calls ≡ []) passes → (n : ℕ) → calls_in passes n ≡ []
@@ -27,7 +28,7 @@ no-calls boards passes none n = elim (cases_lt n (length passes)) [
 ]
 
 pub at-first : (net : Net) (arrivals : Amounts) (boards : BoardsView) (passes : List PassView) (actors : List Acting) (world : WorldState) → AreNew net (length net.node_names) actors → world.second ≡ 0
-    → ((arriving : ℕ → ℕ → ℕ) (shown : ℕ → ℕ → Option (ℕ × ℕ)) → Stands net arriving shown world) → length passes ≡ length net.node_names → AreAllPasses boards passes → All (λ (p : PassView). p.calls ≡ []) passes
+    → ((arriving : ℕ → ℕ → ℕ) (shown : ℕ → ℕ → Sign) → Stands net arriving shown world) → length passes ≡ length net.node_names → AreAllPasses boards passes → All (λ (p : PassView). p.calls ≡ []) passes
     → ((node : ℕ) (p : PassView) → node < length net.node_names → net.run.rounds * length (board_steps net node) ≤ (get_or passes node p).left) → (plans : Vec PlanRecord) → plans.items ≡ [] → net.run.rounds * length net.node_names ≤ vec_capacity plans
     → Between net arrivals boards 0 passes actors world plans
 at-first net arrivals boards passes actors world new second stands all own none left plans unplanned capacity = record {

@@ -18,7 +18,7 @@ use Rattle.histories.specs.Calls.{step_of}
 use Rattle.net_parts.specs.Numbers.{Net}
 use Rattle.net_simulator.specs.Flow.{cumulative_under}
 use Rattle.net_simulator.specs.Senses.{sense}
-use Rattle.net_simulator.specs.Worlds.{IsWorldOf, WorldState, Stands, standing_by}
+use Rattle.net_simulator.specs.Worlds.{IsWorldOf, WorldState, Stands, signs_by}
 use Rattle.outflow.specs.Outflow.{departures, told_forecast}
 use Rattle.road_net.specs.declared.senses.Sensed.{Sensed}
 use Rattle.node_rounds.specs.Told.{AreCallsOf, heard_of}
@@ -50,8 +50,8 @@ pub record HasMade (old new : PassView) (calls : List Call) : Type 0 where
 
 -- what a node sensed is what it senses of any arrivals and lines for which the world stands
 abbrev pub IsSeen : Net → WorldState → ℕ → Sensed → Type 0
-IsSeen net world node sensed = (arriving : ℕ → ℕ → ℕ) (lines : ℕ → List Green) → Stands net arriving (standing_by lines) world
-    → sensed ≡ sense net (cumulative_under net arriving (standing_by lines) world.second) world.second node
+IsSeen net world node sensed = (arriving : ℕ → ℕ → ℕ) (lines : ℕ → List Green) → Stands net arriving (signs_by lines) world
+    → sensed ≡ sense net (cumulative_under net arriving (signs_by lines) world.second) world.second node
 
 -- a node has begun a round: it has sensed the world, and heard nothing yet
 pub record HasBegun (net : Net) (round : ℕ) (world : WorldState) (a b : Acting) : Type 0 where

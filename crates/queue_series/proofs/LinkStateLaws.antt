@@ -1,5 +1,5 @@
 -- What is kept of the links, and what passed them.
-use Rattle.std.proofs.Common.{◌≡◌, ℕ, zero, suc, ◌+◌, ◌-◌, ◌<◌, ◌≤◌, ◌==◌, ◌&&◌, false, List, [], ◌∷◌, ◌++◌, length, get_or, set, map, replicate, Vec, append-nil, nat_lt, if◌then◌else◌, Option, refl, sym, ap, ◌∙◌, subst, inl, inr, arith, length-set, get_or-set_same, get_or-set_other}
+use Rattle.std.proofs.Common.{◌≡◌, ℕ, zero, suc, ◌+◌, ◌-◌, ◌<◌, ◌≤◌, ◌==◌, ◌&&◌, false, List, [], ◌∷◌, ◌++◌, length, get_or, set, map, replicate, Vec, append-nil, nat_lt, if◌then◌else◌, refl, sym, ap, ◌∙◌, subst, inl, inr, arith, length-set, get_or-set_same, get_or-set_other}
 use Rattle.std.proofs.lemmas.Bool.{cases_Bool, cases_eq, cases_lt, lt-ltb, ltb-true, true≢false}
 use Rattle.std.proofs.lemmas.List.{get_or_default, length-replicate}
 use Rattle.std.proofs.lemmas.Grind.{flat_map-append}
@@ -16,7 +16,7 @@ use Rattle.road_net.proofs.TotalLaws.{total-same}
 use Rattle.net_simulator.specs.Counts.{counts_at}
 use Rattle.net_simulator.specs.Flow.{Cumulative, nothing, cumulative_under, queue}
 use Rattle.net_simulator.specs.Sums.{delay, end_of_run, link_totals}
-use Rattle.net_simulator.specs.Worlds.{Stands, WorldState, line_in, standing_by}
+use Rattle.net_simulator.specs.Worlds.{Stands, WorldState, line_in, signs_by}
 use Rattle.net_simulator.specs.declared.totals.LinkTotals.{LinkTotals}
 use Rattle.net_simulator.proofs.FlowLaws.{past-kept, past-none}
 use Rattle.net_simulator.proofs.Conserving.{left-entered}
@@ -28,10 +28,11 @@ use Rattle.queue_series.specs.Series.{IsPeak, IsSeries, change_records, header, 
 use Rattle.queue_series.specs.declared.link_states.Peak.{Peak}
 use Rattle.queue_series.specs.declared.link_states.LinkState.{LinkState}
 use Rattle.queue_series.specs.LinkStates.{AreLinkStates, CanGoOn, HaveMoved, IsLinkState, are_same, first_state, kept_records, next_at, next_peak, next_state, peak_of, state_at, state_record}
+use Rattle.control_flow.specs.declared.greens.Sign.{Sign}
 
 -- ---- the past up to a second is part of a longer one
 
-module _ (net : Net) (arriving : ℕ → ℕ → ℕ) (shown : ℕ → ℕ → Option (ℕ × ℕ)) (x : ℕ) where
+module _ (net : Net) (arriving : ℕ → ℕ → ℕ) (shown : ℕ → ℕ → Sign) (x : ℕ) where
   past-longer : (m n l : ℕ) → n ≤ x → x ≤ m → cumulative_under net arriving shown m n l ≡ cumulative_under net arriving shown x n l
   past-longer zero n l within longer = (let e : zero ≡ x = omega (arith, longer) in ap (λ t. cumulative_under net arriving shown t n l) e)
   past-longer (suc m) n l within longer = elim (cases_eq x (suc m)) [
@@ -147,19 +148,19 @@ flat-same f g (suc n) same =
         ap (flat_map h) (range-push 0 k ∙ ap (λ (j : ℕ). range_with_len 0 k ++ j ∷ []) at) ∙ flat_map-append h (range_with_len 0 k) (k ∷ []) ∙ ap (λ t. flat_map h (range_with_len 0 k) ++ t) (append-nil (h k))
 
 module _ (net : Net) (network : IsNetwork net) (arriving : ℕ → ℕ → ℕ) (lines : List (List Green)) (n : ℕ) (before : n < end_of_run net) (world : WorldState) (second : world.second ≡ n + 1)
-    (stands : Stands net arriving (standing_by (line_in lines)) world) (link_states : List LinkState) (are : AreLinkStates net (cumulative_of_lines net arriving lines) n link_states) where
+    (stands : Stands net arriving (signs_by (line_in lines)) world) (link_states : List LinkState) (are : AreLinkStates net (cumulative_of_lines net arriving lines) n link_states) where
   abbrev past : ℕ → ℕ → Cumulative
   past = cumulative_of_lines net arriving lines
 
   counted : (l : ℕ) → l < length net.link_names → counts_at world.counts l ≡ link_totals net past (n + 1) l
   counted l below =
-      stands.counts l below ∙ ap (λ s. link_totals net (cumulative_under net arriving (standing_by (line_in lines)) s) s l) second
-      ∙ totals-longer net arriving (standing_by (line_in lines)) (n + 1) (end_of_run net) l (omega (arith, before))
+      stands.counts l below ∙ ap (λ s. link_totals net (cumulative_under net arriving (signs_by (line_in lines)) s) s l) second
+      ∙ totals-longer net arriving (signs_by (line_in lines)) (n + 1) (end_of_run net) l (omega (arith, before))
 
   pub can-all : (l : ℕ) → l < length net.link_names → CanGoOn (state_at link_states l) (counts_at world.counts l)
   can-all l below =
       can-go-on net past l n (state_at link_states l) (counts_at world.counts l) (are.are l below) (counted l below)
-      (left-entered net past (end_of_run net) (sound-at net network arriving (standing_by (line_in lines)) (end_of_run net)) l (n + 1) below (omega (arith, before)))
+      (left-entered net past (end_of_run net) (sound-at net network arriving (signs_by (line_in lines)) (end_of_run net)) l (n + 1) below (omega (arith, before)))
 
   next-is : (l : ℕ) → l < length net.link_names → IsLinkState net past (n + 1) l (next_at world link_states l)
   next-is l below =
@@ -187,7 +188,7 @@ module _ (net : Net) (arriving : ℕ → ℕ → ℕ) (lines : List (List Green)
   no_past = cumulative_of_lines net arriving lines
 
   none : (l : ℕ) → no_past 0 l ≡ nothing
-  none l = past-none net arriving (standing_by (line_in lines)) (end_of_run net) l
+  none l = past-none net arriving (signs_by (line_in lines)) (end_of_run net) l
 
   no-queue : (l : ℕ) → 0 ≡ queue net no_past 0 l
   no-queue l =

@@ -4,7 +4,7 @@ use Rattle.board_model.specs.declared.boards.Heard.{Heard}
 use Rattle.board_model.specs.declared.forecasts.Row.{Row}
 use Rattle.clusters.specs.declared.vehicle_groups.Platoon.{Platoon}
 use Rattle.clusters.specs.declared.vehicle_groups.Window.{Window}
-use Rattle.control_flow.specs.Greens.{standing}
+use Rattle.control_flow.specs.Signs.{sign_at}
 use Rattle.control_flow.specs.declared.greens.Green.{Green}
 use Rattle.histories.specs.Steps.{publisher}
 use Rattle.intersection_actor.specs.Commits.{Commitment, IsProblemOf}
@@ -44,10 +44,10 @@ pub record IsPlannedFrom (net : Net) (state : RoundState) (made : ℕ → Commit
   pub instance : IsProblemOf net plan.node (line_of state plan.node) (sensed_of state plan.node) (heard_by net state made plan) head platoons window plan.instance
 
 -- how a node's line goes on from the second in which a round begins: it is one for the next round, and before that second it
--- shows the same greens, with the same begins
+-- shows the same signs
 pub record GoesOnAt (net : Net) (round node : ℕ) (old new : List Green) : Type 0 where
   pub next : IsLineAt (plan_at net node) (begin_of net (round + 1)) new
-  pub past : (second : ℕ) → second < begin_of net round → standing new second ≡ standing old second
+  pub past : (second : ℕ) → second < begin_of net round → sign_at new second ≡ sign_at old second
 
 -- the line of a node in a decision
 abbrev pub decided_line : Decision → ℕ → List Green

@@ -3,7 +3,7 @@ use Rattle.std.proofs.Common.{◌≡◌, ℕ, zero, suc, ◌*◌, ◌/◌, ◌<�
 use Rattle.std.proofs.lemmas.Nat.{div_below}
 use Rattle.board_model.specs.declared.boards.Heard.{Heard}
 use Rattle.clusters.specs.Inflow.{IsHeardOf}
-use Rattle.control_flow.specs.Greens.{standing}
+use Rattle.control_flow.specs.Signs.{sign_at}
 use Rattle.control_flow.specs.declared.greens.Green.{Green}
 use Rattle.intersection_actor.specs.Commits.{Commitment, IsCommit}
 use Rattle.net_parts.specs.Numbers.{Net}
@@ -25,7 +25,7 @@ module _ (net : Net) (network : IsNetwork net) (arriving : ℕ → ℕ → ℕ) 
   lines-same (suc r) n before below = ap (λ (c : Commitment). c.line) (before r n (omega arith) below)
 
   pub past-same : (r : ℕ) → SameBefore r → cumulative_by net arriving made (r * net.run.step) ≡ cumulative_by net arriving other (r * net.run.step)
-  past-same r before = past-at-nodes net network arriving (shown_by net made) (shown_by net other) (r * net.run.step) (λ x n less below. ap (λ (c : Commitment). standing c.line x) (before (x / net.run.step) n (div_below x net.run.step r network.outline.run.step.0 less) below))
+  past-same r before = past-at-nodes net network arriving (shown_by net made) (shown_by net other) (r * net.run.step) (λ x n less below. ap (λ (c : Commitment). sign_at c.line x) (before (x / net.run.step) n (div_below x net.run.step r network.outline.run.step.0 less) below))
 
   pub sensed-same : (r n : ℕ) → SameBefore r → sensed_in net arriving made r n ≡ sensed_in net arriving other r n
   sensed-same r n before = ap (λ (p : ℕ → ℕ → Cumulative). sense net p (r * net.run.step) n) (past-same r before)

@@ -2,7 +2,8 @@
 use Rattle.std.proofs.Common.{◌≡◌, ℕ, ◌<◌, List, [], All, length, get_or, sym, ap, subst, ◌∙◌, arith}
 use Rattle.std.proofs.lemmas.List.FromFn.{get_or-map-range_with_len}
 use Rattle.std.proofs.lemmas.Nat.{div_below}
-use Rattle.control_flow.specs.Greens.{IsLawful as IsLawfulLine, standing}
+use Rattle.control_flow.specs.Greens.{IsLawful as IsLawfulLine}
+use Rattle.control_flow.specs.Signs.{sign_at}
 use Rattle.control_flow.specs.declared.greens.Green.{Green}
 use Rattle.histories.specs.Histories.{IsLawful}
 use Rattle.intersection_actor.specs.declared.records.PlanRecord.{PlanRecord}
@@ -35,5 +36,5 @@ module _ (net : Net) (network : IsNetwork net) (arriving : ℕ → ℕ → ℕ) 
     least = subst (All (λ (p : PlanRecord). IsLeast p.instance p.answer)) (sym is.by.plans) (all-least net network arriving h lawful is.heard is.made is.by.commits is.along);
     lawful = lawful-line;
     safe = safe net network (last_line run) lawful-line;
-    greens = λ second node before below. ap (λ (l : List Green). standing l second) (line-is node below) ∙ shows net network (line_before net is.made) net.run.rounds keep net.run.rounds (omega arith) second node below (div_below second net.run.step net.run.rounds network.outline.run.step.0 before);
+    signs = λ second node before below. ap (λ (l : List Green). sign_at l second) (line-is node below) ∙ shows net network (line_before net is.made) net.run.rounds keep net.run.rounds (omega arith) second node below (div_below second net.run.step net.run.rounds network.outline.run.step.0 before);
   }

@@ -1,10 +1,11 @@
 -- Actors that rest, the new ones among them, and the world that moves by their lines.
-use Rattle.std.proofs.Common.{◌≡◌, ℕ, ◌+◌, ◌*◌, ◌<◌, ◌≤◌, false, List, [], ◌∷◌, ◌++◌, Option, length, get_or, sym, ap, subst, ◌∙◌, inl, inr, arith}
+use Rattle.std.proofs.Common.{◌≡◌, ℕ, ◌+◌, ◌*◌, ◌<◌, ◌≤◌, false, List, [], ◌∷◌, ◌++◌, length, get_or, sym, ap, subst, ◌∙◌, inl, inr, arith}
 use Rattle.std.proofs.lemmas.Bool.{cases_lt}
 use Rattle.std.proofs.lemmas.List.{get_or_append_left, get_or_push, length_push}
 use Rattle.std.proofs.lemmas.Nat.{div_below}
 use Rattle.board_model.specs.declared.boards.Heard.{Heard}
-use Rattle.control_flow.specs.Greens.{end_of, standing}
+use Rattle.control_flow.specs.Greens.{end_of}
+use Rattle.control_flow.specs.Signs.{sign_at}
 use Rattle.intersection_actor.specs.Acting.{Acting}
 use Rattle.intersection_actor.specs.Commits.{Commitment}
 use Rattle.intersection_actor.specs.Rounds.{IsNew, IsOf}
@@ -13,7 +14,7 @@ use Rattle.net_parts.specs.Numbers.{Net}
 use Rattle.net_simulator.specs.Flow.{Cumulative, cumulative_under}
 use Rattle.net_simulator.specs.Senses.{sense, stood}
 use Rattle.net_simulator.specs.Sums.{link_totals, totals}
-use Rattle.net_simulator.specs.Worlds.{Keeps, WorldState, Stands, standing_by}
+use Rattle.net_simulator.specs.Worlds.{Keeps, WorldState, Stands, signs_by}
 use Rattle.road_net.specs.Network.{IsNetwork}
 use Rattle.signal_safety.proofs.Rounds.{shows}
 use Rattle.runs.specs.Runs.{AllCommit, line_before, sensed_in, shown_by}
@@ -21,6 +22,7 @@ use Rattle.runs.proofs.Keep.{all-keep}
 use Rattle.net_simulator.proofs.AtNodes.{past-at-nodes}
 use Rattle.schedule_meaning.specs.declared.planners.Answer.TheVariants.{NoPlan}
 use Rattle.runs.specs.Resting.{AreNew, Rests}
+use Rattle.control_flow.specs.declared.greens.Sign.{Sign}
 
 -- some actor, and some commit, where there is none
 abbrev pub no_acting : Acting
@@ -39,7 +41,7 @@ no_commitment = record {
 }
 
 -- a world counts what is shown only at the nodes of the network, and before its second
-pub stands-same : (net : Net) → IsNetwork net → (arriving : ℕ → ℕ → ℕ) (shown seen : ℕ → ℕ → Option (ℕ × ℕ)) (w : WorldState)
+pub stands-same : (net : Net) → IsNetwork net → (arriving : ℕ → ℕ → ℕ) (shown seen : ℕ → ℕ → Sign) (w : WorldState)
     → ((x node : ℕ) → x < w.second → node < length net.node_names → shown x node ≡ seen x node) → Stands net arriving shown w → Stands net arriving seen w
 stands-same net network arriving shown seen w same s =
     let e : cumulative_under net arriving shown w.second ≡ cumulative_under net arriving seen w.second = past-at-nodes net network arriving shown seen w.second same in
@@ -54,19 +56,19 @@ stands-same net network arriving shown seen w same s =
 
 -- the lines before a round show what the world moved by
 module _ (net : Net) (network : IsNetwork net) (arriving : ℕ → ℕ → ℕ) (round : ℕ) (heard : ℕ → ℕ → List Heard) (made : ℕ → ℕ → Commitment) (most : round ≤ net.run.rounds) (commits : AllCommit net arriving heard made round) where
-  pub before-shows : (x node : ℕ) → x < round * net.run.step → node < length net.node_names → standing (line_before net made round node) x ≡ shown_by net made x node
+  pub before-shows : (x node : ℕ) → x < round * net.run.step → node < length net.node_names → sign_at (line_before net made round node) x ≡ shown_by net made x node
   before-shows x node less below = shows net network (line_before net made) round (all-keep net network arriving heard made round most commits) round (omega arith) x node below (div_below x net.run.step round network.outline.run.step.0 less)
 
-  pub before-stands : (world : WorldState) → world.second ≡ round * net.run.step → Stands net arriving (shown_by net made) world → Stands net arriving (standing_by (line_before net made round)) world
-  before-stands world second stands = stands-same net network arriving (shown_by net made) (standing_by (line_before net made round)) world
+  pub before-stands : (world : WorldState) → world.second ≡ round * net.run.step → Stands net arriving (shown_by net made) world → Stands net arriving (signs_by (line_before net made round)) world
+  before-stands world second stands = stands-same net network arriving (shown_by net made) (signs_by (line_before net made round)) world
       (λ x node less below. sym (before-shows x node (omega (arith, second)) below)) stands
 
   -- what a node senses of such a world
   pub sense-is : (world : WorldState) → world.second ≡ round * net.run.step → (n : ℕ)
-      → sense net (cumulative_under net arriving (standing_by (line_before net made round)) world.second) world.second n ≡ sensed_in net arriving made round n
+      → sense net (cumulative_under net arriving (signs_by (line_before net made round)) world.second) world.second n ≡ sensed_in net arriving made round n
   sense-is world second n =
-      ap (λ s. sense net (cumulative_under net arriving (standing_by (line_before net made round)) s) s n) second
-      ∙ ap (λ (p : ℕ → ℕ → Cumulative). sense net p (round * net.run.step) n) (past-at-nodes net network arriving (standing_by (line_before net made round)) (shown_by net made) (round * net.run.step) (λ x node less below. before-shows x node less below))
+      ap (λ s. sense net (cumulative_under net arriving (signs_by (line_before net made round)) s) s n) second
+      ∙ ap (λ (p : ℕ → ℕ → Cumulative). sense net p (round * net.run.step) n) (past-at-nodes net network arriving (signs_by (line_before net made round)) (shown_by net made) (round * net.run.step) (λ x node less below. before-shows x node less below))
 
 pub zero-times : (s : ℕ) → 0 ≡ 0 * s
 zero-times s = omega arith

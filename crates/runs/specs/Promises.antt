@@ -1,6 +1,7 @@
 -- What every run keeps.
 use Rattle.std.specs.Prelude.{◌≡◌, ℕ, ◌<◌, List, [], All, length, slice_index_or}
-use Rattle.control_flow.specs.Greens.{IsLawful, standing}
+use Rattle.control_flow.specs.Greens.{IsLawful}
+use Rattle.control_flow.specs.Signs.{sign_at}
 use Rattle.control_flow.specs.declared.greens.Green.{Green}
 use Rattle.intersection_actor.specs.Commits.{Commitment}
 use Rattle.net_parts.specs.Numbers.{Net}
@@ -24,8 +25,7 @@ last_line run node = slice_index_or run.timelines node []
 -- `least`: no sequence of that instance has less delay than the plan, and there is no plan only where no sequence is feasible;
 -- `lawful`, `safe`: the timelines of the nodes after the last round are lawful, and no two links in conflict are ever green
 -- together;
--- `greens`: in each second of the run these timelines show the same phase green, since the same second, as those by which the
--- vehicles moved.
+-- `signs`: in each second of the run these timelines show the same signs as those by which the vehicles moved.
 pub record KeepsPromises (net : Net) (arriving : ℕ → ℕ → ℕ) (history : List ℕ) (made : ℕ → ℕ → Commitment) (run : RunRecord) : Type 0 where
   pub named : All (NamesVersions net history) run.plans
   pub newer : NeverOlder run.plans
@@ -33,7 +33,7 @@ pub record KeepsPromises (net : Net) (arriving : ℕ → ℕ → ℕ) (history :
   pub least : All (λ plan. IsLeast plan.instance plan.answer) run.plans
   pub lawful : (node : ℕ) → node < length net.node_names → IsLawful (plan_at net node) (last_line run node)
   pub safe : IsSafe net (last_line run)
-  pub greens : (second node : ℕ) → second < end_of_run net → node < length net.node_names → standing (last_line run node) second ≡ shown_by net made second node
+  pub signs : (second node : ℕ) → second < end_of_run net → node < length net.node_names → sign_at (last_line run node) second ≡ shown_by net made second node
 
 -- the run of a history, with all that it keeps
 pub record IsKeptRun (net : Net) (arriving : ℕ → ℕ → ℕ) (history : List ℕ) (record_of_run : RunRecord) : Type 0 where

@@ -1,11 +1,11 @@
 -- A run: what each node makes in each round, from what it senses and hears, and the record of it.
-use Rattle.std.specs.Prelude.{◌≡◌, ℕ, zero, suc, ◌*◌, ◌/◌, ◌<◌, List, [], Option, Contains, length, map, slice_index}
+use Rattle.std.specs.Prelude.{◌≡◌, ℕ, zero, suc, ◌*◌, ◌/◌, ◌<◌, List, [], Contains, length, map, slice_index}
 use Rattle.std.specs.List.{flat_map, range_with_len}
 use Rattle.board_model.specs.declared.boards.Heard.{Heard}
 use Rattle.board_model.specs.declared.forecasts.Row.{Row}
 use Rattle.clusters.specs.Inflow.{IsHeardOf}
 use Rattle.clusters.specs.Windows.{counts_of}
-use Rattle.control_flow.specs.Greens.{standing}
+use Rattle.control_flow.specs.Signs.{sign_at}
 use Rattle.control_flow.specs.Timelines.{rotation_of}
 use Rattle.control_flow.specs.declared.greens.Green.{Green}
 use Rattle.histories.specs.Histories.{round_at, step_at, version_at}
@@ -22,6 +22,7 @@ use Rattle.net_simulator.specs.Sums.{end_of_run, link_totals, totals}
 use Rattle.outflow.specs.Outflow.{departures, told_forecast}
 use Rattle.road_net.specs.declared.senses.Sensed.{Sensed}
 use Rattle.runs.specs.declared.records.RunRecord.{RunRecord}
+use Rattle.control_flow.specs.declared.greens.Sign.{Sign}
 
 -- In this file `arriving second link` is what enters a link from outside in a second, in thousandths of a vehicle; `made round node`
 -- is the commit of a node in a round, and `heard round node` what it has read of the boards before: a version of each link, with
@@ -32,9 +33,9 @@ abbrev pub line_before : Net → (ℕ → ℕ → Commitment) → ℕ → ℕ �
 line_before net made zero node = rotation_of (plan_at net node) first_head 0
 line_before net made (suc round) node = (made round node).line
 
--- which phase is green in a second at a node, and since when: in the seconds of a round the signals show the lines of its commits
-abbrev pub shown_by : Net → (ℕ → ℕ → Commitment) → ℕ → ℕ → Option (ℕ × ℕ)
-shown_by net made x node = standing (made (x / net.run.step) node).line x
+-- the sign of a node in a second: in the seconds of a round the signals show the lines of its commits
+abbrev pub shown_by : Net → (ℕ → ℕ → Commitment) → ℕ → ℕ → Sign
+shown_by net made x node = sign_at (made (x / net.run.step) node).line x
 
 -- what passed the links in the first n seconds, where the signals show the timelines of the nodes' commits
 abbrev pub cumulative_by : Net → (ℕ → ℕ → ℕ) → (ℕ → ℕ → Commitment) → ℕ → ℕ → ℕ → Cumulative

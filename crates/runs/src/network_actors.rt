@@ -2,8 +2,8 @@
 ghost use Rattle.std.specs.Prelude.{IfOk, length};
 ghost use Rattle.runs.specs.Resting.{AreNew};
 
-use control_flow::green_at;
-use control_flow::greens::Green;
+use control_flow::greens::Sign;
+use control_flow::sign_at;
 use foundation::threads::CrossesThreads;
 use intersection_actor::{Actor, PlanRecord};
 use net_simulator::Lights;
@@ -26,11 +26,11 @@ impl Lights for Actors {
 
     ghost lines = { λ actors node. lines_of actors.all.items node };
 
-    fn green(&self, node: u32, second: u32) -> Option<Green> {
+    fn sign(&self, node: u32, second: u32) -> Sign {
         if node as usize >= self.all.len() {
-            return None;
+            return Sign::Dark;
         }
-        green_at(self.all[node as usize].timeline(), second)
+        sign_at(self.all[node as usize].timeline(), second)
     }
 }
 

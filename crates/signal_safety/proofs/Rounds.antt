@@ -5,7 +5,8 @@ use Rattle.std.proofs.lemmas.Bool.{cases_lt, cond_both, leb-true}
 use Rattle.std.proofs.lemmas.Nat.{mul-le}
 use Rattle.std.proofs.Math.Nat.{div-lt_iff_lt-mul}
 use Rattle.std.proofs.lemmas.Option.{none-some, same_Some}
-use Rattle.control_flow.specs.Greens.{BeginBy, GoesOn, IsContinued, IsGreen, IsLawful, head_at, head_in, row_after, spliced, standing}
+use Rattle.control_flow.specs.Greens.{BeginBy, GoesOn, IsContinued, IsGreen, IsLawful, head_at, head_in, row_after, spliced}
+use Rattle.control_flow.specs.Signs.{sign_at}
 use Rattle.control_flow.specs.Timelines.{AreServings, line_of, rotation_of}
 use Rattle.control_flow.specs.declared.greens.Green.{Green}
 use Rattle.control_flow.proofs.MakingLaws.{line_of-by, line_of-line, rotation_of-by, rotation_of-line}
@@ -72,7 +73,7 @@ module _ (plan : List Phase) (head : Head) (until : ℕ) (p : IsPlan plan) (h : 
 -- what a round that begins at a second keeps of a node's line
 pub record KeepsLine (plan : List Phase) (old : List Green) (now : ℕ) (rows : List Green) : Type 0 where
   pub line : IsLine plan rows
-  pub past : (second : ℕ) → second < now → standing rows second ≡ standing old second
+  pub past : (second : ℕ) → second < now → sign_at rows second ≡ sign_at old second
 
 -- it does where it splices rows with which the line may go on
 pub spliced-keeps : (plan : List Phase) (old : List Green) (now : ℕ) (head : Head) (next : List Green) → IsPlan plan → IsLine plan old → head_at plan old now ≡ Some head → IsNext plan head next → KeepsLine plan old now (spliced old next)
@@ -96,11 +97,11 @@ module _ (net : Net) (step : ℕ) (line : ℕ → ℕ → List Green) (rounds : 
 
 module _ (net : Net) (step : ℕ) (some : 0 < step) (line : ℕ → ℕ → List Green) (rounds : ℕ) (keep : AllKeepEvery net step line rounds) where
   -- what a line shows in a round before is what the line made in that round showed
-  pub shows-every : (r : ℕ) → r ≤ rounds → (second node : ℕ) → node < length net.node_names → second / step < r → standing (line r node) second ≡ shown_every step (λ round. line (suc round)) second node
+  pub shows-every : (r : ℕ) → r ≤ rounds → (second node : ℕ) → node < length net.node_names → second / step < r → sign_at (line r node) second ≡ shown_every step (λ round. line (suc round)) second node
   shows-every zero most second node below before = absurd (omega arith)
   shows-every (suc r) most second node below before = elim (cases_lt (second / step) r) [
     | inl earlier ↦ (keep r node (omega arith) below).past second ((div-lt_iff_lt-mul {k = step} {x = second} {y = r} some).0 earlier) ∙ shows-every r (omega arith) second node below earlier
-    | inr last ↦ (let e : r ≡ second / step = omega arith in ap (λ s. standing (line (suc s) node) second) e)
+    | inr last ↦ (let e : r ≡ second / step = omega arith in ap (λ s. sign_at (line (suc s) node) second) e)
   ]
 
 -- the same of the rounds of a network
@@ -115,7 +116,7 @@ module _ (net : Net) (network : IsNetwork net) (line : ℕ → ℕ → List Gree
       (λ r less. (let most = network.outline.run.rounds.1 in mul-le r net.run.step 600 30 (omega arith) network.outline.run.step.1)) first keeps
 
 module _ (net : Net) (network : IsNetwork net) (line : ℕ → ℕ → List Green) (rounds : ℕ) (keep : AllKeep net line rounds) where
-  pub shows : (r : ℕ) → r ≤ rounds → (second node : ℕ) → node < length net.node_names → second / net.run.step < r → standing (line r node) second ≡ shown_by net (λ round. line (suc round)) second node
+  pub shows : (r : ℕ) → r ≤ rounds → (second node : ℕ) → node < length net.node_names → second / net.run.step < r → sign_at (line r node) second ≡ shown_by net (λ round. line (suc round)) second node
   shows = shows-every net net.run.step network.outline.run.step.0 line rounds keep
 
   pub lawful-after : (r : ℕ) → 0 < r → r ≤ rounds → (node : ℕ) → node < length net.node_names → IsLawful (plan_at net node) (line r node)

@@ -1,14 +1,15 @@
 -- How the rounds of a run in a world with a store go on, and what every such run keeps.
-use Rattle.std.proofs.Common.{◌≡◌, ℕ, zero, suc, ◌+◌, ◌*◌, ◌<◌, ◌≤◌, List, Option, length, [], sym, ap, subst, ◌∙◌, arith}
+use Rattle.std.proofs.Common.{◌≡◌, ℕ, zero, suc, ◌+◌, ◌*◌, ◌<◌, ◌≤◌, List, length, [], sym, ap, subst, ◌∙◌, arith}
 use Rattle.std.proofs.lemmas.List.FromFn.{get_or-map-range_with_len}
 use Rattle.std.proofs.lemmas.Nat.{div_below}
 use Rattle.audit.specs.Audits.{AreLawful}
-use Rattle.control_flow.specs.Greens.{IsLawful, standing}
+use Rattle.control_flow.specs.Greens.{IsLawful}
+use Rattle.control_flow.specs.Signs.{sign_at}
 use Rattle.control_flow.specs.declared.greens.Green.{Green}
 use Rattle.net_parts.specs.Numbers.{Net}
 use Rattle.net_parts.specs.Outline.{plan_at}
 use Rattle.net_simulator.specs.Sums.{end_of_run}
-use Rattle.net_simulator.specs.Worlds.{line_in, standing_by}
+use Rattle.net_simulator.specs.Worlds.{line_in, signs_by}
 use Rattle.road_net.specs.Network.{IsNetwork}
 use Rattle.signal_safety.specs.Rounds.{line_before}
 use Rattle.signal_safety.specs.Safe.{IsSafe}
@@ -29,33 +30,34 @@ use Rattle.spillback_world.proofs.Shown.{past-same, stands-under}
 use Rattle.spillback_control.specs.SpillRounds.{HaveSpilled}
 use Rattle.spillback_control.specs.SpillRuns.{IsActuatedIn, LastLinesShow, last_lines}
 use Rattle.arrivals.specs.Amounts.{Amounts, AreArrivals, arriving_of}
+use Rattle.control_flow.specs.declared.greens.Sign.{Sign}
 
 -- before the first round
 pub none-spilled : (net : Net) (arriving : ℕ → ℕ → ℕ) (store : ℕ → ℕ) (lines : List (List Green)) (w : SpillState) → AreFirstLines net (length net.node_names) lines → w.second ≡ 0
-    → ((shown : ℕ → ℕ → Option (ℕ × ℕ)) → Stands net arriving store shown w) → HaveSpilled net arriving store 0 lines w
+    → ((shown : ℕ → ℕ → Sign) → Stands net arriving store shown w) → HaveSpilled net arriving store 0 lines w
 none-spilled net arriving store lines w first second stands = record {
   acted = none-acted net (cumulative_in net arriving store) lines first;
   second = (let z : 0 ≡ 0 * act_step net = omega arith in second ∙ z);
-  stands = stands (standing_by (line_in lines));
+  stands = stands (signs_by (line_in lines));
 }
 
 module _ (net : Net) (network : IsNetwork net) (arriving : ℕ → ℕ → ℕ) (store : ℕ → ℕ) (r : ℕ) (lines renewed : List (List Green)) (near : List ℕ) (w : SpillState) (a : HaveSpilled net arriving store r lines w) (are : AreRenewed net near w.second (length net.node_names) lines renewed) where
   then-renewed : AreRenewed net near (r * act_step net) (length net.node_names) lines renewed
   then-renewed = subst (λ s. AreRenewed net near s (length net.node_names) lines renewed) a.second are
 
-  pub renewed-stands : Stands net arriving store (standing_by (line_in renewed)) w
+  pub renewed-stands : Stands net arriving store (signs_by (line_in renewed)) w
   renewed-stands =
-      stands-under net arriving store (standing_by (line_in lines)) (standing_by (line_in renewed)) w
+      stands-under net arriving store (signs_by (line_in lines)) (signs_by (line_in renewed)) w
       (λ x n less. sym (same-before net network (cumulative_in net arriving store) (past-same net arriving store) r lines renewed near a.acted then-renewed x n (omega (arith, a.second, less)))) a.stands
 
   pub room : r < act_rounds net → w.second + act_step net ≤ 18000
   room less = omega (arith, time-for net network r less, a.second)
 
   -- after a round more
-  pub more-spilled : AreNear net (cumulative_in net arriving store (standing_by (line_in lines)) w.second) w.second near → (v : SpillState) → v.second ≡ w.second + act_step net → Stands net arriving store (standing_by (line_in renewed)) v → HaveSpilled net arriving store (r + 1) renewed v
+  pub more-spilled : AreNear net (cumulative_in net arriving store (signs_by (line_in lines)) w.second) w.second near → (v : SpillState) → v.second ≡ w.second + act_step net → Stands net arriving store (signs_by (line_in renewed)) v → HaveSpilled net arriving store (r + 1) renewed v
   more-spilled sensed v second stands = record {
     acted = more-acted net network (cumulative_in net arriving store) (past-same net arriving store) r lines renewed near a.acted then-renewed
-        (subst (λ s. AreNear net (cumulative_in net arriving store (standing_by (line_in lines)) s) s near) a.second sensed);
+        (subst (λ s. AreNear net (cumulative_in net arriving store (signs_by (line_in lines)) s) s near) a.second sensed);
     second = omega (arith, second, a.second, one-round net r);
     stands = stands;
   }
@@ -72,8 +74,8 @@ ended net network arriving store lines w t a is =
       made = a.acted.made;
       acts = a.acted.acts;
       are =
-          is ∙ a.stands.totals ∙ ap (λ s. stored_totals net arriving (cumulative_in net arriving store (standing_by (line_in lines)) s) s) (a.second ∙ whole)
-          ∙ ap (λ p. stored_totals net arriving p (end_of_run net)) (past-same net arriving store (standing_by (line_in lines)) (shown_in net a.acted.made) (end_of_run net) (λ x n less. a.acted.shown x n (omega (arith, less, whole))));
+          is ∙ a.stands.totals ∙ ap (λ s. stored_totals net arriving (cumulative_in net arriving store (signs_by (line_in lines)) s) s) (a.second ∙ whole)
+          ∙ ap (λ p. stored_totals net arriving p (end_of_run net)) (past-same net arriving store (signs_by (line_in lines)) (shown_in net a.acted.made) (end_of_run net) (λ x n less. a.acted.shown x n (omega (arith, less, whole))));
     }
 
 -- ---- what every run keeps
@@ -101,5 +103,5 @@ module _ (net : Net) (network : IsNetwork net) (arriving : ℕ → ℕ → ℕ) 
 
   pub last-show : LastLinesShow net is.made
   last-show second n before below =
-      ap (λ (l : List Green). standing l second) (last-is n below)
+      ap (λ (l : List Green). sign_at l second) (last-is n below)
       ∙ shows-every net (act_step net) (act-rounds net network).some (line_before (first_line net) is.made) (act_rounds net) keep (act_rounds net) (omega arith) second n below (div_below second (act_step net) (act_rounds net) (act-rounds net network).some (in-rounds second before))

@@ -4,7 +4,7 @@ use Rattle.actuated.specs.ActSteps.{act_step}
 use Rattle.actuated.specs.RunsSoFar.{HaveActed}
 use Rattle.control_flow.specs.declared.greens.Green.{Green}
 use Rattle.net_parts.specs.Numbers.{Net}
-use Rattle.net_simulator.specs.Worlds.{line_in, standing_by}
+use Rattle.net_simulator.specs.Worlds.{line_in, signs_by}
 use Rattle.spillback_world.specs.Storage.{cumulative_in}
 use Rattle.spillback_world.specs.Worlds.{SpillState, Stands}
 
@@ -12,4 +12,4 @@ use Rattle.spillback_world.specs.Worlds.{SpillState, Stands}
 pub record HaveSpilled (net : Net) (arriving : ℕ → ℕ → ℕ) (store : ℕ → ℕ) (rounds : ℕ) (lines : List (List Green)) (w : SpillState) : Type 0 where
   pub acted : HaveActed net (cumulative_in net arriving store) rounds lines
   pub second : w.second ≡ rounds * act_step net
-  pub stands : Stands net arriving store (standing_by (line_in lines)) w
+  pub stands : Stands net arriving store (signs_by (line_in lines)) w

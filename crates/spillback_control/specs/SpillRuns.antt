@@ -3,7 +3,7 @@ use Rattle.std.specs.Prelude.{◌≡◌, ℕ, ◌<◌, List, length, map}
 use Rattle.std.specs.List.{range_with_len}
 use Rattle.actuated.specs.ActRuns.{AllAct, first_line, shown_in}
 use Rattle.actuated.specs.ActSteps.{act_rounds}
-use Rattle.control_flow.specs.Greens.{standing}
+use Rattle.control_flow.specs.Signs.{sign_at}
 use Rattle.control_flow.specs.declared.greens.Green.{Green}
 use Rattle.net_parts.specs.Numbers.{Net}
 use Rattle.net_simulator.specs.Sums.{end_of_run}
@@ -25,8 +25,8 @@ pub record IsActuatedIn (net : Net) (arriving : ℕ → ℕ → ℕ) (store : �
 abbrev pub last_lines : Net → (ℕ → ℕ → List Green) → List (List Green)
 last_lines net made = map (line_before (first_line net) made (act_rounds net)) (range_with_len 0 (length net.node_names))
 
--- in each second of the run the last lines show the greens, with the same begin, by which the world moved
+-- in each second of the run the last lines show the signs by which the world moved
 abbrev pub LastLinesShow : Net → (ℕ → ℕ → List Green) → Type 0
 LastLinesShow net made =
     (second node : ℕ) → second < end_of_run net → node < length net.node_names
-    → standing (line_in (last_lines net made) node) second ≡ shown_in net made second node
+    → sign_at (line_in (last_lines net made) node) second ≡ shown_in net made second node

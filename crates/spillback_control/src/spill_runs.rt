@@ -25,8 +25,8 @@ use std::alloc::{AllocError, Global};
 /// to the end of the last round: when a round of the controller begins, of `act_step` seconds, the timeline of each node goes
 /// on by what the node senses then of the world with that store; and then this world moves by the timelines up to the next one.
 ///
-/// The last timelines are lawful, and the network is safe under them. They show the greens, with the same begin, by
-/// which that world moved. What entered has left or is on the links.
+/// The last timelines are lawful, and the network is safe under them. They show the signs by which that world moved. What
+/// entered has left or is on the links.
 ///
 /// `Err`: out of memory.
 ///
@@ -44,7 +44,7 @@ pub fn spill_actuated(
         → AreLawful net.now (last_lines net.now is.made)) }
     ensures safe { IfOk result (λ t. (is : IsActuatedIn net.now (arriving_of arrivals.now) (slice_index store.now) t)
         → IsSafe net.now (line_in (last_lines net.now is.made))) }
-    ensures greens { IfOk result (λ t. (is : IsActuatedIn net.now (arriving_of arrivals.now) (slice_index store.now) t)
+    ensures signs { IfOk result (λ t. (is : IsActuatedIn net.now (arriving_of arrivals.now) (slice_index store.now) t)
         → LastLinesShow net.now is.made) }
     ensures whole { IfOk result IsBalanced }
 {

@@ -22,6 +22,7 @@ use Rattle.net_simulator.proofs.Sound.{IsSound, discharge_to-most}
 use Rattle.net_simulator.proofs.Sums.{total-part, total-without, without, without-other}
 use Rattle.spillback_world.specs.Filling.{greatest, has_room}
 use Rattle.spillback_world.specs.Storage.{first_out, inward, held_after, next_goes, all_goes, goes_of, opening}
+use Rattle.control_flow.specs.declared.greens.Sign.{Sign}
 
 pub greatest-all : (fits : ℕ → Bool) (wish : ℕ) → fits wish ≡ true → greatest fits wish ≡ wish
 greatest-all fits zero fit = refl
@@ -58,7 +59,7 @@ out-in : (to : Option ℕ) (a w on : ℕ) → a ≤ w → w ≤ on → inward to
 out-in None a w on less there = omega arith
 out-in (Some node) a w on less there = omega arith
 
-module _ (net : Net) (network : IsNetwork net) (shown : ℕ → Option (ℕ × ℕ)) (past : ℕ → ℕ → Cumulative) (x : ℕ) (sound : IsSound net past x) (few : on_road net past x ≤ 2000000000) (travels : (l : ℕ) → l < length net.link_names → 1 ≤ (link_at net l).travel) where
+module _ (net : Net) (network : IsNetwork net) (shown : ℕ → Sign) (past : ℕ → ℕ → Cumulative) (x : ℕ) (sound : IsSound net past x) (few : on_road net past x ≤ 2000000000) (travels : (l : ℕ) → l < length net.link_names → 1 ≤ (link_at net l).travel) where
   abbrev n : ℕ
   n = length net.link_names
 

@@ -1,5 +1,5 @@
 -- Where every link holds as much as may ever arrive, the totals are those of the world without bounds, and nothing waits outside.
-use Rattle.std.proofs.Common.{◌≡◌, ℕ, ◌+◌, ◌<◌, Option, Some, length, refl, ap, ◌∙◌, arith}
+use Rattle.std.proofs.Common.{◌≡◌, ℕ, ◌+◌, ◌<◌, Some, length, refl, ap, ◌∙◌, arith}
 use Rattle.net_parts.specs.Numbers.{Net}
 use Rattle.road_net.specs.Network.{IsNetwork}
 use Rattle.road_net.specs.Totals.{total}
@@ -16,8 +16,9 @@ use Rattle.spillback_world.proofs.Course.{spilled-all}
 use Rattle.spillback_world.proofs.Passing.{same-totals}
 use Rattle.spillback_world.proofs.Sources.{none-outside}
 use Rattle.spillback_world.proofs.Whole.{all-entered, ample}
+use Rattle.control_flow.specs.declared.greens.Sign.{Sign}
 
-module _ (net : Net) (network : IsNetwork net) (arriving : ℕ → ℕ → ℕ) (few : AreFew net arriving) (sources : (x l node : ℕ) → (link_at net l).from ≡ Some node → arriving x l ≡ 0) (shown : ℕ → ℕ → Option (ℕ × ℕ)) (n : ℕ) where
+module _ (net : Net) (network : IsNetwork net) (arriving : ℕ → ℕ → ℕ) (few : AreFew net arriving) (sources : (x l node : ℕ) → (link_at net l).from ≡ Some node → arriving x l ≡ 0) (shown : ℕ → ℕ → Sign) (n : ℕ) where
   abbrev P : ℕ → ℕ → Cumulative
   P = cumulative_under net arriving shown n
 

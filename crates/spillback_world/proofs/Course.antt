@@ -21,6 +21,7 @@ use Rattle.spillback_world.specs.Filling.{fitting, greatest, has_room}
 use Rattle.spillback_world.specs.StoredTotals.{from_outside, stored_totals}
 use Rattle.spillback_world.specs.Storage.{AreWithin, Opening, held_by, inward, next_goes, opening, cumulative_in, stored_moves}
 use Rattle.spillback_world.proofs.Within.{at-last, before-last, first, held-given, past-last, within}
+use Rattle.control_flow.specs.declared.greens.Sign.{Sign}
 
 greatest-most : (fits : ℕ → Bool) (wish : ℕ) → greatest fits wish ≤ wish
 greatest-most fits zero = omega arith
@@ -66,7 +67,7 @@ plain-any net network l to = elim (cases_lt l (length net.link_names)) [
   | inr past ↦ get_or_past net.turns l [] (let e = network.outline.turn_count in omega (arith, past))
 ]
 
-module _ (net : Net) (network : IsNetwork net) (arriving : ℕ → ℕ → ℕ) (store : ℕ → ℕ) (shown : ℕ → ℕ → Option (ℕ × ℕ)) where
+module _ (net : Net) (network : IsNetwork net) (arriving : ℕ → ℕ → ℕ) (store : ℕ → ℕ) (shown : ℕ → ℕ → Sign) where
   abbrev rule : List (List Cumulative) → ℕ → Moves
   rule = stored_moves net arriving store shown
 

@@ -1,7 +1,5 @@
 -- A world that stands for its past stands for it one second later.
-use Rattle.std.proofs.Common.{◌≡◌, ◌≢◌, ℕ, suc, ◌+◌, ◌-◌, ◌%◌, ◌<◌, ◌≤◌, Bool, false, min, List, Option, Some, None, IfSome, length, slice_index, slice_index_or, refl, sym, ap, subst, ◌∙◌, add-one, arith}
-use Rattle.std.specs.Option.{option_map}
-use Rattle.control_flow.specs.declared.greens.Green.{Green}
+use Rattle.std.proofs.Common.{◌≡◌, ◌≢◌, ℕ, suc, ◌+◌, ◌-◌, ◌%◌, ◌<◌, ◌≤◌, Bool, false, min, List, Option, Some, None, length, slice_index, slice_index_or, refl, sym, ap, subst, ◌∙◌, add-one, arith}
 use Rattle.net_parts.specs.Numbers.{Net}
 use Rattle.net_parts.specs.Outline.{link_at, turns_at}
 use Rattle.road_net.specs.Joins.{split_of}
@@ -9,7 +7,7 @@ use Rattle.road_net.specs.Network.{IsNetwork}
 use Rattle.road_net.specs.Totals.{total}
 use Rattle.road_net.proofs.TotalLaws.{total-same, total-le, total-swap, total-zero}
 use Rattle.net_simulator.specs.Flow.{Cumulative, queue, waiting, may_go}
-use Rattle.net_simulator.specs.LinkSeconds.{stands_on, waits_at}
+use Rattle.net_simulator.specs.LinkSeconds.{HasBegun, stands_on, waits_at}
 use Rattle.net_simulator.specs.Moves.{Moves}
 use Rattle.net_simulator.specs.Rows.{cell}
 use Rattle.net_simulator.specs.Senses.{stood}
@@ -17,7 +15,7 @@ use Rattle.net_simulator.specs.Sums.{AreFew, total_left, outward}
 use Rattle.net_simulator.specs.Worlds.{Keeps}
 use Rattle.net_simulator.proofs.Conserving.{come, grown, left-entered}
 use Rattle.net_simulator.proofs.EveryWorld.{are-sound, bounds-of, gone-more, queue-still, queues-most}
-use Rattle.net_simulator.proofs.Keeping.{keeps-next, kept-queue, open-same, phase_and_begin, waits-same}
+use Rattle.net_simulator.proofs.Keeping.{keeps-next, kept-queue, open-same, waits-same}
 use Rattle.net_simulator.proofs.MoveLaws.{moves_by, cumulative_by}
 use Rattle.net_simulator.proofs.Outside.{comes-none, comes-within, few-come, only-comes}
 use Rattle.net_simulator.proofs.Sound.{AreMoved, Continues, IsSound, next-one}
@@ -31,6 +29,8 @@ use Rattle.spillback_world.specs.Worlds.{HasShape, SpillState, Stands}
 use Rattle.spillback_world.proofs.Agreeing.{AgreeAt, goes-same}
 use Rattle.spillback_world.proofs.Course.{course, entered-come, let-in-most, own-goes, spilled-whole, within-at}
 use Rattle.spillback_world.proofs.Within.{held-given}
+use Rattle.control_flow.specs.declared.greens.Sign.{Sign}
+use Rattle.control_flow.specs.declared.greens.Sign.TheVariants.{Dark}
 
 outward-most : (to : Option ℕ) (a : ℕ) → outward to a ≤ a
 outward-most None a = omega arith
@@ -45,7 +45,7 @@ pub same-totals : (s t : SpillTotals) → s.entered ≡ t.entered → s.left ≡
 same-totals s t a b c d e = λ i. record { entered = a i; left = b i; on = c i; outside = d i; delay = e i }
 
 -- a world that stands, by lists that are those that it keeps
-pub stands-seen : (net : Net) (arriving : ℕ → ℕ → ℕ) (store : ℕ → ℕ) (shown : ℕ → ℕ → Option (ℕ × ℕ)) (w : SpillState) (qs rs ws ss os hs : List ℕ)
+pub stands-seen : (net : Net) (arriving : ℕ → ℕ → ℕ) (store : ℕ → ℕ) (shown : ℕ → ℕ → Sign) (w : SpillState) (qs rs ws ss os hs : List ℕ)
     → qs ≡ w.queues → rs ≡ w.recent → ws ≡ w.waits → ss ≡ w.stood → os ≡ w.outside → hs ≡ w.held → Stands net arriving store shown w
     → Stands net arriving store shown (record { second = w.second; nodes = w.nodes; queues = qs; recent = rs; waits = ws; stood = ss; outside = os; held = hs; totals = w.totals })
 stands-seen net arriving store shown w qs rs ws ss os hs a b c d e f stands =
@@ -72,13 +72,13 @@ pub entering-held : (net : Net) (store queues entering held : List ℕ) → AreH
 entering-held net store queues entering held are l h = omega (arith, are.there l h)
 
 -- What has been done when the links discharge: the lists of what leaves, of the queues, of what enters and of what is held, and which
--- links may discharge where the nodes show these greens.
-pub record IsBegun (net : Net) (w : SpillState) (greens : List (Option Green)) (served : List Bool) (lv1 qs1 en1 hs1 : List ℕ) : Type 0 where
+-- links may discharge where the nodes show these signs.
+pub record IsBegun (net : Net) (w : SpillState) (signs : List Sign) (served : List Bool) (lv1 qs1 en1 hs1 : List ℕ) : Type 0 where
   pub leaving : (l : ℕ) → l < length net.link_names → slice_index lv1 l ≡ outward (link_at net l).to (waits_at net w.queues w.recent w.second l)
   pub queues : (l : ℕ) → l < length net.link_names → slice_index qs1 l ≡ waits_at net w.queues w.recent w.second l - slice_index lv1 l
   pub held : (l : ℕ) → l < length net.link_names → slice_index hs1 l ≡ slice_index w.held l - slice_index lv1 l
   pub none : (l : ℕ) → l < length net.link_names → slice_index en1 l ≡ 0
-  pub serves : (l : ℕ) → l < length net.link_names → slice_index_or served l false ≡ served_at net w.waits greens w.second l (link_at net l).to
+  pub serves : (l : ℕ) → l < length net.link_names → slice_index_or served l false ≡ served_at net w.waits signs w.second l (link_at net l).to
 
 -- What the code has done after that in the second, by the lists of what enters and of what is held once all have discharged.
 pub record IsEnded (net : Net) (arriving : ℕ → ℕ) (store : List ℕ) (w : SpillState) (qs en hs : List ℕ) (v : SpillState) : Type 0 where
@@ -90,7 +90,7 @@ pub record IsEnded (net : Net) (arriving : ℕ → ℕ) (store : List ℕ) (w : 
   pub remembers_others : (l y : ℕ) → y % 128 ≢ (w.second + 1) % 128 → cell v.waits l y ≡ cell w.waits l y
   pub stands : (l : ℕ) → l < length net.link_names → slice_index v.stood l ≡ stands_on (slice_index qs l) (slice_index w.stood l)
 
-module _ (net : Net) (network : IsNetwork net) (arriving : ℕ → ℕ → ℕ) (store : List ℕ) (shown : ℕ → ℕ → Option (ℕ × ℕ))
+module _ (net : Net) (network : IsNetwork net) (arriving : ℕ → ℕ → ℕ) (store : List ℕ) (shown : ℕ → ℕ → Sign)
     (few : AreFew net arriving) (sources : (x l node : ℕ) → (link_at net l).from ≡ Some node → arriving x l ≡ 0) (w : SpillState) (stands : Stands net arriving (slice_index store) shown w) where
   abbrev past : ℕ → ℕ → ℕ → Cumulative
   past = cumulative_by net (stored_moves net arriving (slice_index store) shown)
@@ -153,7 +153,7 @@ module _ (net : Net) (network : IsNetwork net) (arriving : ℕ → ℕ → ℕ) 
       omega (arith, queues, links, outside-most P (y + 1))) in
       omega (arith, each, total-of 642000000000 x, stands.by, ap (λ (t : SpillTotals). t.delay) stands.totals)
 
-  module _ (greens : List (Option Green)) (served : List Bool) (lv1 qs1 en1 hs1 : List ℕ) (begun : IsBegun net w greens served lv1 qs1 en1 hs1) where
+  module _ (signs : List Sign) (served : List Bool) (lv1 qs1 en1 hs1 : List ℕ) (begun : IsBegun net w signs served lv1 qs1 en1 hs1) where
     -- what waits and what is held, as the links discharge
     pub are-held : AreHeld net store qs1 en1 hs1
     are-held = record {
@@ -161,15 +161,15 @@ module _ (net : Net) (network : IsNetwork net) (arriving : ℕ → ℕ → ℕ) 
       within = λ l h. omega (arith, begun.held l h, stands.held l h, within-at net network arriving (slice_index store) shown x l h);
     }
 
-    module _ (begins : (n : ℕ) → n < length net.node_names → IfSome (slice_index_or greens n None) (λ g. g.from ≤ w.second))
-        (seen : (n : ℕ) → n < length net.node_names → shown w.second n ≡ option_map phase_and_begin (slice_index_or greens n None)) where
+    module _ (begins : (n : ℕ) → n < length net.node_names → HasBegun w.second (slice_index_or signs n Dark))
+        (seen : (n : ℕ) → n < length net.node_names → shown w.second n ≡ slice_index_or signs n Dark) where
       agree : AgreeAt net (opening_by qs1 lv1 served hs1) (opening net (shown w.second) P w.second)
       agree = record {
         waits = λ l h. omega (arith, begun.queues l h, begun.leaving l h, waits-now l h, outward-most (link_at net l).to (waits_at net w.queues w.recent w.second l));
         may_go = λ l node h to.
             let there = (bounds-of net network).ends l node h to in
-            begun.serves l h ∙ ap (served_at net w.waits greens w.second l) to
-            ∙ open-same net x P w.queues w.recent w.waits (bounds-of net network) (sound x) stands.keeps l node (slice_index_or greens node None) h to (begins node there)
+            begun.serves l h ∙ ap (served_at net w.waits signs w.second l) to
+            ∙ open-same net x P w.queues w.recent w.waits (bounds-of net network) (sound x) stands.keeps l node (slice_index_or signs node Dark) h to (begins node there)
             ∙ ap (may_go net P x l node) (sym (seen node there));
         holds = λ l h. omega (arith, begun.held l h, begun.leaving l h, stands.held l h, ap (outward (link_at net l).to) (waits-now l h));
       }

@@ -14,7 +14,7 @@ use Rattle.net_simulator.specs.Flow.{Cumulative, nothing}
 use Rattle.net_simulator.specs.LinkSeconds.{seen_by}
 use Rattle.net_simulator.specs.Senses.{near_of, near_on, sense}
 use Rattle.net_simulator.specs.Sums.{on_road, outward}
-use Rattle.net_simulator.specs.Worlds.{standing_by}
+use Rattle.net_simulator.specs.Worlds.{signs_by}
 use Rattle.net_simulator.proofs.EveryWorld.{are-sound, bounds-of, road-most}
 use Rattle.net_simulator.proofs.MoveLaws.{moves_by, cumulative_by, zero-by}
 use Rattle.net_simulator.proofs.Outside.{few-come}
@@ -32,10 +32,11 @@ use Rattle.spillback_world.specs.Worlds.{IsWorldOf, SpillState, Stands}
 use Rattle.spillback_world.proofs.Course.{course, let-in-most}
 use Rattle.spillback_world.proofs.Passing.{same-totals}
 use Rattle.spillback_world.proofs.Sources.{sources-of}
+use Rattle.control_flow.specs.declared.greens.Sign.{Sign}
 
 -- what is gathered of what a world keeps is what the definition gives
 pub gathered : (net : Net) (node : ℕ) (w v : SpillState) (qs rs ss links : List ℕ) (out : List LinkSense) → IsNetwork net → v ≡ w → qs ≡ v.queues → rs ≡ v.recent → ss ≡ v.stood → links ≡ entry_links net node → out ≡ map (seen_by net qs rs ss v.second) links
-    → All (λ l. l < length net.link_names) (entry_links net node) → (arriving : ℕ → ℕ → ℕ) (store : ℕ → ℕ) (shown : ℕ → ℕ → Option (ℕ × ℕ)) → Stands net arriving store shown w
+    → All (λ l. l < length net.link_names) (entry_links net node) → (arriving : ℕ → ℕ → ℕ) (store : ℕ → ℕ) (shown : ℕ → ℕ → Sign) → Stands net arriving store shown w
     → (let s : Sensed = record { now = v.second; links = out } in s) ≡ sense net (cumulative_in net arriving store shown w.second) w.second node
 gathered net node w v qs rs ss links out network view queues recent standing entries all below arriving store shown stands =
     let one = queues ∙ ap (λ (k : SpillState). k.queues) view in
@@ -48,11 +49,11 @@ gathered net node w v qs rs ss links out network view queues recent standing ent
 
 -- and it is within the bounds of what a node sees
 pub is-sensed : (net : Net) (node : ℕ) (w : SpillState) → IsNetwork net → All (λ l. l < length net.link_names) (entry_links net node) → IsStrictlyIncreasing (entry_links net node) → (world : IsWorldOf net w)
-    → IsSensedOf net node (sense net (cumulative_in net (arriving_of world.arrivals) world.store (standing_by world.lines) w.second) w.second node)
+    → IsSensedOf net node (sense net (cumulative_in net (arriving_of world.arrivals) world.store (signs_by world.lines) w.second) w.second node)
 is-sensed net node w network below rising world =
     let a : ℕ → ℕ → ℕ = arriving_of world.arrivals in
     let sources = sources-of net world.arrivals world.enter in
-    let shown : ℕ → ℕ → Option (ℕ × ℕ) = standing_by world.lines in
+    let shown : ℕ → ℕ → Sign = signs_by world.lines in
     let all = course net network a world.store shown in
     let few = few-come net network (moves_by net (stored_moves net a world.store shown)) (cumulative_by net (stored_moves net a world.store shown)) all a (let-in-most net network a world.store shown sources) sources (few-of net network world.arrivals world.enter) in
     are-sensed net node w.second (cumulative_in net a world.store shown w.second) world.stands.by (are-sound net network (moves_by net (stored_moves net a world.store shown)) (cumulative_by net (stored_moves net a world.store shown)) all w.second)
@@ -66,7 +67,7 @@ outward-none : (to : Option ℕ) (a : ℕ) → a ≡ 0 → outward to a ≡ 0
 outward-none None a none = none
 outward-none (Some node) a none = refl
 
-pub stands-new : (net : Net) (arriving : ℕ → ℕ → ℕ) (store : ℕ → ℕ) (shown : ℕ → ℕ → Option (ℕ × ℕ)) (nodes n : ℕ) (links : Links) → AreEmpty n links → n ≡ length net.link_names → nodes ≡ length net.node_names
+pub stands-new : (net : Net) (arriving : ℕ → ℕ → ℕ) (store : ℕ → ℕ) (shown : ℕ → ℕ → Sign) (nodes n : ℕ) (links : Links) → AreEmpty n links → n ≡ length net.link_names → nodes ≡ length net.node_names
     → Stands net arriving store shown (state_of links 0 nodes (record { entered = 0; left = 0; on = 0; outside = 0; delay = 0 }))
 stands-new net arriving store shown nodes n links empty long there =
     let P : ℕ → ℕ → Cumulative = cumulative_in net arriving store shown 0 in
@@ -97,7 +98,7 @@ stands-new net arriving store shown nodes n links empty long there =
 
 -- what is near by what a world keeps is what the definition gives
 pub near-gathered : (net : Net) (w v : SpillState) (qs rs ss : List ℕ) (gap l : ℕ) → IsNetwork net → v ≡ w → qs ≡ v.queues → rs ≡ v.recent → ss ≡ v.stood → l < length net.link_names
-    → (arriving : ℕ → ℕ → ℕ) (store : ℕ → ℕ) (shown : ℕ → ℕ → Option (ℕ × ℕ)) → Stands net arriving store shown w → near_of (seen_by net qs rs ss v.second l) gap ≡ near_on net (cumulative_in net arriving store shown w.second) w.second gap l
+    → (arriving : ℕ → ℕ → ℕ) (store : ℕ → ℕ) (shown : ℕ → ℕ → Sign) → Stands net arriving store shown w → near_of (seen_by net qs rs ss v.second l) gap ≡ near_on net (cumulative_in net arriving store shown w.second) w.second gap l
 near-gathered net w v qs rs ss gap l network view queues recent standing inside arriving store shown stands =
     let one = queues ∙ ap (λ (k : SpillState). k.queues) view in
     let two = recent ∙ ap (λ (k : SpillState). k.recent) view in
@@ -109,23 +110,23 @@ near-gathered net w v qs rs ss gap l network view queues recent standing inside 
 -- what is on the road of such a world is within bounds
 module _ (net : Net) (network : IsNetwork net) (w : SpillState) (world : IsWorldOf net w) where
   abbrev seen : ℕ → ℕ → Cumulative
-  seen = cumulative_in net (arriving_of world.arrivals) world.store (standing_by world.lines) w.second
+  seen = cumulative_in net (arriving_of world.arrivals) world.store (signs_by world.lines) w.second
 
-  all-moved : AreMoved net (moves_by net (stored_moves net (arriving_of world.arrivals) world.store (standing_by world.lines))) (cumulative_by net (stored_moves net (arriving_of world.arrivals) world.store (standing_by world.lines)))
-  all-moved = course net network (arriving_of world.arrivals) world.store (standing_by world.lines)
+  all-moved : AreMoved net (moves_by net (stored_moves net (arriving_of world.arrivals) world.store (signs_by world.lines))) (cumulative_by net (stored_moves net (arriving_of world.arrivals) world.store (signs_by world.lines)))
+  all-moved = course net network (arriving_of world.arrivals) world.store (signs_by world.lines)
 
-  sound : IsSound net (cumulative_in net (arriving_of world.arrivals) world.store (standing_by world.lines) w.second) w.second
-  sound = are-sound net network (moves_by net (stored_moves net (arriving_of world.arrivals) world.store (standing_by world.lines))) (cumulative_by net (stored_moves net (arriving_of world.arrivals) world.store (standing_by world.lines))) all-moved w.second
+  sound : IsSound net (cumulative_in net (arriving_of world.arrivals) world.store (signs_by world.lines) w.second) w.second
+  sound = are-sound net network (moves_by net (stored_moves net (arriving_of world.arrivals) world.store (signs_by world.lines))) (cumulative_by net (stored_moves net (arriving_of world.arrivals) world.store (signs_by world.lines))) all-moved w.second
 
-  road : on_road net (cumulative_in net (arriving_of world.arrivals) world.store (standing_by world.lines) w.second) w.second ≤ 2000000000
+  road : on_road net (cumulative_in net (arriving_of world.arrivals) world.store (signs_by world.lines) w.second) w.second ≤ 2000000000
   road =
       let sources = sources-of net world.arrivals world.enter in
-      let few = few-come net network (moves_by net (stored_moves net (arriving_of world.arrivals) world.store (standing_by world.lines))) (cumulative_by net (stored_moves net (arriving_of world.arrivals) world.store (standing_by world.lines))) all-moved (arriving_of world.arrivals)
-      (let-in-most net network (arriving_of world.arrivals) world.store (standing_by world.lines) sources) sources (few-of net network world.arrivals world.enter) in
-      road-most net network (moves_by net (stored_moves net (arriving_of world.arrivals) world.store (standing_by world.lines))) (cumulative_by net (stored_moves net (arriving_of world.arrivals) world.store (standing_by world.lines))) all-moved few w.second
+      let few = few-come net network (moves_by net (stored_moves net (arriving_of world.arrivals) world.store (signs_by world.lines))) (cumulative_by net (stored_moves net (arriving_of world.arrivals) world.store (signs_by world.lines))) all-moved (arriving_of world.arrivals)
+      (let-in-most net network (arriving_of world.arrivals) world.store (signs_by world.lines) sources) sources (few-of net network world.arrivals world.enter) in
+      road-most net network (moves_by net (stored_moves net (arriving_of world.arrivals) world.store (signs_by world.lines))) (cumulative_by net (stored_moves net (arriving_of world.arrivals) world.store (signs_by world.lines))) all-moved few w.second
 
-  pub near-fits : (gap l : ℕ) → l < length net.link_names → near_on net (cumulative_in net (arriving_of world.arrivals) world.store (standing_by world.lines) w.second) w.second gap l ≤ 2000000000
+  pub near-fits : (gap l : ℕ) → l < length net.link_names → near_on net (cumulative_in net (arriving_of world.arrivals) world.store (signs_by world.lines) w.second) w.second gap l ≤ 2000000000
   near-fits gap l inside = near-few net seen w.second sound gap l road inside
 
-  pub near-all-fits : (gap : ℕ) → total (near_on net (cumulative_in net (arriving_of world.arrivals) world.store (standing_by world.lines) w.second) w.second gap) (length net.link_names) ≤ 2000000000
+  pub near-all-fits : (gap : ℕ) → total (near_on net (cumulative_in net (arriving_of world.arrivals) world.store (signs_by world.lines) w.second) w.second gap) (length net.link_names) ≤ 2000000000
   near-all-fits gap = near-road net seen w.second sound gap road

@@ -17,23 +17,24 @@ use Rattle.spillback_world.specs.Filling.{fitting}
 use Rattle.spillback_world.specs.StoredTotals.{stored_totals}
 use Rattle.spillback_world.specs.Storage.{all_goes, goes_of, held_by, let_in, next_goes, opening, outside, cumulative_in, stored_moves}
 use Rattle.spillback_world.specs.Worlds.{SpillState, Stands}
+use Rattle.control_flow.specs.declared.greens.Sign.{Sign}
 
-module _ (net : Net) (arriving : ℕ → ℕ → ℕ) (store : ℕ → ℕ) (shown seen : ℕ → ℕ → Option (ℕ × ℕ)) (n : ℕ) (same : (x node : ℕ) → x < n → shown x node ≡ seen x node) where
+module _ (net : Net) (arriving : ℕ → ℕ → ℕ) (store : ℕ → ℕ) (shown seen : ℕ → ℕ → Sign) (n : ℕ) (same : (x node : ℕ) → x < n → shown x node ≡ seen x node) where
   pub history-same : history_by net (stored_moves net arriving store shown) n ≡ history_by net (stored_moves net arriving store seen) n
   history-same =
       by-same net (stored_moves net arriving store shown) (stored_moves net arriving store seen) n (λ x less.
       let past : ℕ → ℕ → Cumulative = passed_in (history_by net (stored_moves net arriving store seen) x) in
       let e : shown x ≡ seen x = λ i node. same x node less i in
       record {
-        goes = λ l inside. ap (λ (g : ℕ → Option (ℕ × ℕ)). slice_index (goes_of net store g past x (length net.link_names)) l) e;
-        comes = λ l inside. ap (λ (g : ℕ → Option (ℕ × ℕ)). let_in net arriving store g past x (goes_of net store g past x (length net.link_names)) l) e;
+        goes = λ l inside. ap (λ (g : ℕ → Sign). slice_index (goes_of net store g past x (length net.link_names)) l) e;
+        comes = λ l inside. ap (λ (g : ℕ → Sign). let_in net arriving store g past x (goes_of net store g past x (length net.link_names)) l) e;
       })
 
   pub past-same : cumulative_in net arriving store shown n ≡ cumulative_in net arriving store seen n
   past-same = ap passed_in history-same
 
 -- a timeline counts only by what it shows in the seconds below the world's
-pub stands-under : (net : Net) (arriving : ℕ → ℕ → ℕ) (store : ℕ → ℕ) (shown seen : ℕ → ℕ → Option (ℕ × ℕ)) (w : SpillState) → ((x node : ℕ) → x < w.second → shown x node ≡ seen x node) → Stands net arriving store shown w → Stands net arriving store seen w
+pub stands-under : (net : Net) (arriving : ℕ → ℕ → ℕ) (store : ℕ → ℕ) (shown seen : ℕ → ℕ → Sign) (w : SpillState) → ((x node : ℕ) → x < w.second → shown x node ≡ seen x node) → Stands net arriving store shown w → Stands net arriving store seen w
 stands-under net arriving store shown seen w same stands =
     let e : cumulative_in net arriving store shown w.second ≡ cumulative_in net arriving store seen w.second = past-same net arriving store shown seen w.second same in
     record {
@@ -55,7 +56,7 @@ end-below net network l = elim (cases_lt l (length net.links)) [
   | inr past ↦ subst (λ (link : Link). IfSome link.to (λ n. n < length net.node_names)) (sym (get_or_past net.links l no_link past)) tt
 ]
 
-module _ (net : Net) (network : IsNetwork net) (store : ℕ → ℕ) (one other : ℕ → Option (ℕ × ℕ)) (past : ℕ → ℕ → Cumulative) (x : ℕ) (same : (n : ℕ) → n < length net.node_names → one n ≡ other n) where
+module _ (net : Net) (network : IsNetwork net) (store : ℕ → ℕ) (one other : ℕ → Sign) (past : ℕ → ℕ → Cumulative) (x : ℕ) (same : (n : ℕ) → n < length net.node_names → one n ≡ other n) where
   next-same : (goes : List ℕ) (l : ℕ) (to : Option ℕ) → IfSome to (λ n. n < length net.node_names) → next_goes net store (opening net one past x) goes l to ≡ next_goes net store (opening net other past x) goes l to
   next-same goes l None below = refl
   next-same goes l (Some node) below =
@@ -75,7 +76,7 @@ module _ (net : Net) (network : IsNetwork net) (store : ℕ → ℕ) (one other 
     comes = λ l inside. ap (λ g. let_in net arriving store one past x g l) (goes-same (length net.link_names));
   }
 
-pub past-at-nodes : (net : Net) → IsNetwork net → (arriving : ℕ → ℕ → ℕ) (store : ℕ → ℕ) (shown seen : ℕ → ℕ → Option (ℕ × ℕ)) (n : ℕ) → ((x node : ℕ) → x < n → node < length net.node_names → shown x node ≡ seen x node)
+pub past-at-nodes : (net : Net) → IsNetwork net → (arriving : ℕ → ℕ → ℕ) (store : ℕ → ℕ) (shown seen : ℕ → ℕ → Sign) (n : ℕ) → ((x node : ℕ) → x < n → node < length net.node_names → shown x node ≡ seen x node)
     → cumulative_in net arriving store shown n ≡ cumulative_in net arriving store seen n
 past-at-nodes net network arriving store shown seen n same =
     ap passed_in (by-same net (stored_moves net arriving store shown) (stored_moves net arriving store seen) n (λ x less. moves-same net network store (shown x) (seen x) (passed_in (history_by net (stored_moves net arriving store seen) x)) x (λ k below. same x k less below) arriving))

@@ -1,5 +1,5 @@
 -- Where every link holds as much as may ever arrive, the world with storage is the world without bounds.
-use Rattle.std.proofs.Common.{◌≡◌, ℕ, zero, suc, ◌+◌, ◌-◌, ◌<◌, ◌≤◌, min, List, [], ◌∷◌, ◌++◌, Option, length, map, slice_index, refl, ap, ◌∙◌, add-one, arith}
+use Rattle.std.proofs.Common.{◌≡◌, ℕ, zero, suc, ◌+◌, ◌-◌, ◌<◌, ◌≤◌, min, List, [], ◌∷◌, ◌++◌, length, map, slice_index, refl, ap, ◌∙◌, add-one, arith}
 use Rattle.std.specs.List.{range_with_len}
 use Rattle.net_parts.specs.Numbers.{Net}
 use Rattle.net_parts.specs.Outline.{turns_at}
@@ -16,11 +16,12 @@ use Rattle.net_simulator.proofs.Sums.{range-same, total-part}
 use Rattle.net_simulator.specs.Moves.{history_by, moved}
 use Rattle.spillback_world.specs.Storage.{stored_moves, outside, let_in, held_after, goes_of}
 use Rattle.spillback_world.proofs.Ample.{at-first, held-on, goes-all}
+use Rattle.control_flow.specs.declared.greens.Sign.{Sign}
 
 min-first : (a b : ℕ) → a ≤ b → min a b ≡ a
 min-first a b less = omega (arith, less)
 
-module _ (net : Net) (network : IsNetwork net) (arriving : ℕ → ℕ → ℕ) (few : AreFew net arriving) (shown : ℕ → ℕ → Option (ℕ × ℕ)) where
+module _ (net : Net) (network : IsNetwork net) (arriving : ℕ → ℕ → ℕ) (few : AreFew net arriving) (shown : ℕ → ℕ → Sign) where
   abbrev n : ℕ
   n = length net.link_names
 

@@ -3,7 +3,7 @@ use Rattle.std.proofs.Common.{◌≡◌, ℕ, false, List, [], ◌∷◌, Some, 
 use Rattle.phase_plan.specs.declared.Phase.{Phase}
 use Rattle.control_flow.specs.declared.greens.Green.{Green}
 use Rattle.net_parts.specs.Numbers.{Net}
-use Rattle.net_simulator.specs.Worlds.{standing_by}
+use Rattle.net_simulator.specs.Worlds.{signs_by}
 use Rattle.net_simulator.specs.Moves.{history_by}
 use Rattle.spillback_world.specs.StoredTotals.{stored_totals}
 use Rattle.spillback_world.specs.Storage.{cumulative_in, all_goes}
@@ -36,18 +36,18 @@ store : ℕ → ℕ → ℕ → ℕ
 store link most l = cond (eqb l link) most 2000000000
 
 -- after three seconds, where sa is full
-early : stored_totals net arriving (cumulative_in net arriving (store 0 600) (standing_by lines) 3) 3 ≡ record { entered = 600; left = 0; on = 600; outside = 400; delay = 1200 }
+early : stored_totals net arriving (cumulative_in net arriving (store 0 600) (signs_by lines) 3) 3 ≡ record { entered = 600; left = 0; on = 600; outside = 400; delay = 1200 }
 unfolding history_by all_goes net phase arriving lines store
 early = refl
 
-whole : stored_totals net arriving (cumulative_in net arriving (store 0 600) (standing_by lines) 20) 20 ≡ record { entered = 1000; left = 0; on = 1000; outside = 0; delay = 4100 }
+whole : stored_totals net arriving (cumulative_in net arriving (store 0 600) (signs_by lines) 20) 20 ≡ record { entered = 1000; left = 0; on = 1000; outside = 0; delay = 4100 }
 unfolding history_by all_goes net phase arriving lines store
 whole = refl
 
-blocked : stored_totals net arriving (cumulative_in net arriving (store 1 300) (standing_by lines) 20) 20 ≡ record { entered = 1000; left = 0; on = 1000; outside = 0; delay = 7000 }
+blocked : stored_totals net arriving (cumulative_in net arriving (store 1 300) (signs_by lines) 20) 20 ≡ record { entered = 1000; left = 0; on = 1000; outside = 0; delay = 7000 }
 unfolding history_by all_goes net phase arriving lines store
 blocked = refl
 
-free : stored_totals net arriving (cumulative_in net arriving (λ l. 2000000000) (standing_by lines) 20) 20 ≡ record { entered = 1000; left = 0; on = 1000; outside = 0; delay = 500 }
+free : stored_totals net arriving (cumulative_in net arriving (λ l. 2000000000) (signs_by lines) 20) 20 ≡ record { entered = 1000; left = 0; on = 1000; outside = 0; delay = 500 }
 unfolding history_by all_goes net phase arriving lines store
 free = refl

@@ -2,7 +2,6 @@
 use Rattle.std.specs.Prelude.{◌≡◌, ◌≢◌, ℕ, ◌+◌, ◌*◌, ◌≤◌, ◌<◌, ◌==◌, min, Bool, false, if◌then◌else◌, List, Option, Some, None, length, replicate, slice_index, slice_index_or}
 use Rattle.net_parts.specs.Numbers.{Net}
 use Rattle.net_parts.specs.Outline.{link_at, turns_at}
-use Rattle.control_flow.specs.declared.greens.Green.{Green}
 use Rattle.net_simulator.specs.LinkSeconds.{is_open}
 use Rattle.spillback_world.specs.Filling.{fitting, room_of}
 use Rattle.road_net.specs.Joins.{split_of}
@@ -12,11 +11,13 @@ use Rattle.spillback_world.specs.declared.totals.SpillTotals.{SpillTotals}
 use Rattle.spillback_world.specs.declared.worlds.Links.{Links}
 use Rattle.spillback_world.specs.Storage.{Opening, all_goes, inward}
 use Rattle.spillback_world.specs.Worlds.{SpillState}
+use Rattle.control_flow.specs.declared.greens.Sign.{Sign}
+use Rattle.control_flow.specs.declared.greens.Sign.TheVariants.{Dark}
 
 -- whether link l may discharge in second x, by the queues after each of the last seconds and what the nodes show
-abbrev pub served_at : Net → List ℕ → List (Option Green) → ℕ → ℕ → Option ℕ → Bool
-served_at net waits greens x l None = false
-served_at net waits greens x l (Some node) = is_open net waits x l node (slice_index_or greens node None)
+abbrev pub served_at : Net → List ℕ → List Sign → ℕ → ℕ → Option ℕ → Bool
+served_at net waits signs x l None = false
+served_at net waits signs x l (Some node) = is_open net waits x l node (slice_index_or signs node Dark)
 
 -- how a second begins, by the queues, what leaves the network, which links may discharge, and what is on each link
 abbrev pub opening_by : List ℕ → List ℕ → List Bool → List ℕ → Opening

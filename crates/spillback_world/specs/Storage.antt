@@ -8,6 +8,7 @@ use Rattle.net_simulator.specs.Flow.{Cumulative, passed_in, waiting, may_go}
 use Rattle.net_simulator.specs.Moves.{Moves, history_by}
 use Rattle.net_simulator.specs.Sums.{outward}
 use Rattle.spillback_world.specs.Filling.{fitting}
+use Rattle.control_flow.specs.declared.greens.Sign.{Sign}
 
 -- ---- One second. Below, `store l` is how much link l can hold, and `goes` are the discharges of the first links, in their order.
 
@@ -47,7 +48,7 @@ abbrev pub first_out : Net → (ℕ → ℕ → Cumulative) → ℕ → ℕ → 
 first_out net past x l = outward (link_at net l).to (waiting net past x l)
 
 -- how second x begins
-abbrev pub opening : Net → (ℕ → Option (ℕ × ℕ)) → (ℕ → ℕ → Cumulative) → ℕ → Opening
+abbrev pub opening : Net → (ℕ → Sign) → (ℕ → ℕ → Cumulative) → ℕ → Opening
 opening net shown past x = record {
   waits = waiting net past x;
   may_go = λ l node. may_go net past x l node (shown node);
@@ -55,11 +56,11 @@ opening net shown past x = record {
 }
 
 -- what is on link l in second x, once the first links have discharged
-abbrev pub held_after : Net → (ℕ → Option (ℕ × ℕ)) → (ℕ → ℕ → Cumulative) → ℕ → List ℕ → ℕ → ℕ
+abbrev pub held_after : Net → (ℕ → Sign) → (ℕ → ℕ → Cumulative) → ℕ → List ℕ → ℕ → ℕ
 held_after net shown past x goes l = held_by net (opening net shown past x) goes l
 
 -- the discharges of the first n links in second x
-abbrev pub goes_of : Net → (ℕ → ℕ) → (ℕ → Option (ℕ × ℕ)) → (ℕ → ℕ → Cumulative) → ℕ → ℕ → List ℕ
+abbrev pub goes_of : Net → (ℕ → ℕ) → (ℕ → Sign) → (ℕ → ℕ → Cumulative) → ℕ → ℕ → List ℕ
 goes_of net store shown past x n = all_goes net store (opening net shown past x) n
 
 -- what waits outside of a link after n seconds: what arrived there and has not entered. Nothing arrives at a link that comes from a
@@ -68,17 +69,17 @@ abbrev pub outside : (ℕ → ℕ → ℕ) → (ℕ → ℕ → Cumulative) → 
 outside arriving past n l = total (λ x. arriving x l) n - (past n l).entered
 
 -- what of that, and of what arrives in second x, enters the link then: as much as there is room for, once all links have discharged
-abbrev pub let_in : Net → (ℕ → ℕ → ℕ) → (ℕ → ℕ) → (ℕ → Option (ℕ × ℕ)) → (ℕ → ℕ → Cumulative) → ℕ → List ℕ → ℕ → ℕ
+abbrev pub let_in : Net → (ℕ → ℕ → ℕ) → (ℕ → ℕ) → (ℕ → Sign) → (ℕ → ℕ → Cumulative) → ℕ → List ℕ → ℕ → ℕ
 let_in net arriving store shown past x goes l = min (outside arriving past x l + arriving x l) (store l - held_after net shown past x goes l)
 
 -- what moves in second x
-abbrev pub stored_moves : Net → (ℕ → ℕ → ℕ) → (ℕ → ℕ) → (ℕ → ℕ → Option (ℕ × ℕ)) → List (List Cumulative) → ℕ → Moves
+abbrev pub stored_moves : Net → (ℕ → ℕ → ℕ) → (ℕ → ℕ) → (ℕ → ℕ → Sign) → List (List Cumulative) → ℕ → Moves
 stored_moves net arriving store shown before x =
     let goes = goes_of net store (shown x) (passed_in before) x (length net.link_names) in
     record { goes = slice_index goes; comes = let_in net arriving store (shown x) (passed_in before) x goes }
 
 -- what passed each link in the first n seconds, for n up to `now`
-abbrev pub cumulative_in : Net → (ℕ → ℕ → ℕ) → (ℕ → ℕ) → (ℕ → ℕ → Option (ℕ × ℕ)) → ℕ → ℕ → ℕ → Cumulative
+abbrev pub cumulative_in : Net → (ℕ → ℕ → ℕ) → (ℕ → ℕ) → (ℕ → ℕ → Sign) → ℕ → ℕ → ℕ → Cumulative
 cumulative_in net arriving store shown now = passed_in (history_by net (stored_moves net arriving store shown) now)
 
 -- no link ever holds more than its storage

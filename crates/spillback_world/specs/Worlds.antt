@@ -1,15 +1,16 @@
 -- What a world whose links hold so much and no more stands for.
-use Rattle.std.specs.Prelude.{◌≡◌, ℕ, ◌-◌, ◌*◌, ◌<◌, ◌≤◌, List, Option, length, slice_index}
+use Rattle.std.specs.Prelude.{◌≡◌, ℕ, ◌-◌, ◌*◌, ◌<◌, ◌≤◌, List, length, slice_index}
 use Rattle.net_parts.specs.Limits.{most_seconds}
 use Rattle.control_flow.specs.declared.greens.Green.{Green}
 use Rattle.arrivals.specs.Amounts.{Amounts, AreArrivals, arriving_of}
 use Rattle.net_parts.specs.Numbers.{Net}
 use Rattle.net_simulator.specs.Rows.{kept_seconds}
 use Rattle.net_simulator.specs.Senses.{stood}
-use Rattle.net_simulator.specs.Worlds.{Keeps, standing_by}
+use Rattle.net_simulator.specs.Worlds.{Keeps, signs_by}
 use Rattle.spillback_world.specs.declared.totals.SpillTotals.{SpillTotals}
 use Rattle.spillback_world.specs.StoredTotals.{stored_totals}
 use Rattle.spillback_world.specs.Storage.{outside, cumulative_in}
+use Rattle.control_flow.specs.declared.greens.Sign.{Sign}
 
 -- what a world keeps: its second, how many nodes its network has, and for each link its queue, rows of what entered it and of its
 -- queues, for how long a queue has stood, what waits outside of it, what is on it, and what is counted
@@ -36,7 +37,7 @@ pub record HasShape (net : Net) (w : SpillState) : Type 0 where
 
 -- All that a world keeps is what the definition gives for a network, arrivals, storages and what is shown over the seconds below its
 -- own.
-pub record Stands (net : Net) (arriving : ℕ → ℕ → ℕ) (store : ℕ → ℕ) (shown : ℕ → ℕ → Option (ℕ × ℕ)) (w : SpillState) : Type 0 where
+pub record Stands (net : Net) (arriving : ℕ → ℕ → ℕ) (store : ℕ → ℕ) (shown : ℕ → ℕ → Sign) (w : SpillState) : Type 0 where
   pub shape : HasShape net w
   pub by : w.second ≤ most_seconds
   pub keeps : Keeps net (cumulative_in net arriving store shown w.second) w.queues w.recent w.waits w.second
@@ -51,4 +52,4 @@ pub record IsWorldOf (net : Net) (w : SpillState) : Type 0 where
   pub store : ℕ → ℕ
   pub lines : ℕ → List Green
   pub enter : AreArrivals net arrivals
-  pub stands : Stands net (arriving_of arrivals) store (standing_by lines) w
+  pub stands : Stands net (arriving_of arrivals) store (signs_by lines) w

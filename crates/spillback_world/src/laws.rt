@@ -1,11 +1,12 @@
 //! What holds of every world whose links hold so much and no more.
 
-ghost use Rattle.std.specs.Prelude.{◌≡◌, ℕ, ◌<◌, List, Option};
+ghost use Rattle.std.specs.Prelude.{◌≡◌, ℕ, ◌<◌, List};
 ghost use Rattle.arrivals.specs.Amounts.{Amounts, AreArrivals};
-ghost use Rattle.control_flow.specs.Greens.{standing};
+ghost use Rattle.control_flow.specs.Signs.{sign_at};
 ghost use Rattle.control_flow.specs.declared.greens.Green.{Green};
+ghost use Rattle.control_flow.specs.declared.greens.Sign.{Sign};
 ghost use Rattle.net_parts.specs.Numbers.{Net};
-ghost use Rattle.net_simulator.specs.Worlds.{standing_by};
+ghost use Rattle.net_simulator.specs.Worlds.{signs_by};
 ghost use Rattle.road_net.specs.Network.{IsNetwork};
 ghost use Rattle.spillback_world.specs.Laws.{IsAmple, IsKept};
 ghost use Rattle.spillback_world.specs.Worlds.{SpillState, Stands};
@@ -15,7 +16,7 @@ ghost use Rattle.spillback_world.specs.Worlds.{SpillState, Stands};
 ///
 /// docs/RULES.md, "Storage".
 pub fn law_of_storage()
-    ensures { (net : Net) (arrivals : Amounts) (store : ℕ → ℕ) (shown : ℕ → ℕ → Option (ℕ × ℕ)) (n : ℕ)
+    ensures { (net : Net) (arrivals : Amounts) (store : ℕ → ℕ) (shown : ℕ → ℕ → Sign) (n : ℕ)
         → IsNetwork net → AreArrivals net arrivals → IsKept net arrivals store shown n }
 {}
 
@@ -24,7 +25,7 @@ pub fn law_of_storage()
 ///
 /// docs/RULES.md, "Storage".
 pub fn law_of_ample_storage()
-    ensures { (net : Net) (arrivals : Amounts) (shown : ℕ → ℕ → Option (ℕ × ℕ)) (n : ℕ)
+    ensures { (net : Net) (arrivals : Amounts) (shown : ℕ → ℕ → Sign) (n : ℕ)
         → IsNetwork net → AreArrivals net arrivals → IsAmple net arrivals shown n }
 {}
 
@@ -34,7 +35,7 @@ pub fn law_of_ample_storage()
 /// docs/RULES.md, "Storage".
 pub fn law_of_stored_lights()
     ensures { (net : Net) (arriving : ℕ → ℕ → ℕ) (store : ℕ → ℕ) (lines others : ℕ → List Green) (w : SpillState)
-        → Stands net arriving store (standing_by lines) w
-        → ((x node : ℕ) → x < w.second → standing (lines node) x ≡ standing (others node) x)
-        → Stands net arriving store (standing_by others) w }
+        → Stands net arriving store (signs_by lines) w
+        → ((x node : ℕ) → x < w.second → sign_at (lines node) x ≡ sign_at (others node) x)
+        → Stands net arriving store (signs_by others) w }
 {}

@@ -3,7 +3,7 @@
 ghost use Rattle.std.specs.Prelude.{◌≡◌, IfOk, length, slice_index};
 ghost use Rattle.arrivals.specs.Amounts.{AreArrivals};
 ghost use Rattle.net_simulator.specs.Sums.{end_of_run};
-ghost use Rattle.net_simulator.specs.Worlds.{line_in, standing_by};
+ghost use Rattle.net_simulator.specs.Worlds.{line_in, signs_by};
 ghost use Rattle.spillback_world.specs.Laws.{AreAmple, spilled_in, unbounded_in};
 
 use crate::store::Store;
@@ -30,9 +30,9 @@ pub fn spill_lines<'a>(
     requires arrivals { AreArrivals net.now arrivals.now }
     requires store { length store.now ≡ length net.now.link_names }
     ensures value { IfOk result (λ t. t ≡ spilled_in net.now arrivals.now (slice_index store.now)
-        (standing_by (line_in lines.now.all.now)) (end_of_run net.now)) }
+        (signs_by (line_in lines.now.all.now)) (end_of_run net.now)) }
     ensures ample { AreAmple store.now → IfOk result (λ t. t ≡ unbounded_in net.now arrivals.now
-        (standing_by (line_in lines.now.all.now)) (end_of_run net.now)) }
+        (signs_by (line_in lines.now.all.now)) (end_of_run net.now)) }
 {
     law_of_network(net);
     let mut world = SpillWorld::new(alloc, net)?;

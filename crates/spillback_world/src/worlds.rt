@@ -1,12 +1,13 @@
 //! The world in which a full link holds back those who want to enter it.
 
-ghost use Rattle.std.specs.Prelude.{◌≡◌, ℕ, ◌+◌, ◌≤◌, ◌<◌, None, Option, IfOk, List, length, replicate, slice_index, slice_index_or};
+ghost use Rattle.std.specs.Prelude.{◌≡◌, ℕ, ◌+◌, ◌≤◌, ◌<◌, IfOk, List, length, replicate, slice_index, slice_index_or};
 ghost use Rattle.net_parts.specs.Limits.{most_seconds};
 ghost use Rattle.arrivals.specs.Amounts.{AreArrivals, arriving_of};
-ghost use Rattle.control_flow.specs.declared.greens.Green.{Green};
-ghost use Rattle.control_flow.specs.Greens.{green_at};
+ghost use Rattle.control_flow.specs.declared.greens.Sign.{Sign};
+ghost use Rattle.control_flow.specs.declared.greens.Sign.TheVariants.{Dark};
+ghost use Rattle.control_flow.specs.Signs.{sign_at};
 ghost use Rattle.net_simulator.specs.Senses.{near_on, sense};
-ghost use Rattle.net_simulator.specs.Worlds.{standing_by};
+ghost use Rattle.net_simulator.specs.Worlds.{signs_by};
 ghost use Rattle.road_net.specs.Senses.{IsSensedOf};
 ghost use Rattle.spillback_world.specs.StoredTotals.{IsBalanced};
 ghost use Rattle.spillback_world.specs.Storage.{cumulative_in};
@@ -20,13 +21,13 @@ use crate::signals::serve;
 use crate::store::Store;
 use crate::totals::SpillTotals;
 use arrivals::Arrivals;
-use control_flow::greens::Green;
+use control_flow::greens::Sign;
 use foundation::items::Items;
 use foundation::threads::CrossesThreads;
 use net_simulator::Lights;
 use net_simulator::link_seconds::{look, remember};
 use net_simulator::sensing::{Sight, near_amount, sense_links};
-use net_simulator::starts::{no_greens, zeros};
+use net_simulator::starts::{no_signs, zeros};
 use road_net::{Network, Sensed, law_of_network};
 use std::alloc::{AllocError, Global};
 use std::marker::Model;
@@ -55,7 +56,7 @@ pub(crate) struct Links {
 pub struct SpillWorld {
     second: u32,
     links: Links,
-    greens: Vec<Option<Green>>,
+    signs: Vec<Sign>,
     totals: SpillTotals,
 }
 
@@ -67,7 +68,7 @@ impl Model for SpillWorld {
 
     ghost Value = { SpillState };
 
-    ghost view = { λ w. state_of w.links w.second (length w.greens.items) w.totals };
+    ghost view = { λ w. state_of w.links w.second (length w.signs.items) w.totals };
 
     ghost invariant = { λ w. HaveScratch w.links × IsBalanced w.totals };
 }
@@ -82,15 +83,15 @@ impl SpillWorld {
     /// docs/RULES.md, "Storage".
     pub fn new(alloc: Global, net: &Network) -> Result<SpillWorld, AllocError>
         ensures second { IfOk result (λ w. w.second ≡ 0) }
-        ensures stands { (arriving : ℕ → ℕ → ℕ) (store : ℕ → ℕ) (shown : ℕ → ℕ → Option (ℕ × ℕ))
+        ensures stands { (arriving : ℕ → ℕ → ℕ) (store : ℕ → ℕ) (shown : ℕ → ℕ → Sign)
             → IfOk result (λ w. Stands net.now arriving store shown w) }
     {
         let links = empty_links(alloc, net.links() as usize)?;
-        let greens = no_greens(alloc, net.nodes() as usize)?;
+        let signs = no_signs(alloc, net.nodes() as usize)?;
         Ok(SpillWorld {
             second: 0,
             links,
-            greens,
+            signs,
             totals: SpillTotals {
                 entered: 0,
                 left: 0,
@@ -138,7 +139,7 @@ impl SpillWorld {
         requires node { node < length net.now.node_names }
         requires world { IsWorldOf net.now self.now }
         ensures sensed { IfOk result (IsSensedOf net.now node) }
-        ensures value { (arriving : ℕ → ℕ → ℕ) (store : ℕ → ℕ) (shown : ℕ → ℕ → Option (ℕ × ℕ))
+        ensures value { (arriving : ℕ → ℕ → ℕ) (store : ℕ → ℕ) (shown : ℕ → ℕ → Sign)
             → Stands net.now arriving store shown self.now
             → IfOk result (λ s. s ≡ sense net.now (cumulative_in net.now arriving store shown self.now.second)
             self.now.second node) }
@@ -165,7 +166,7 @@ impl SpillWorld {
     pub fn near(&self, net: &Network, link: u32, gap: u32) -> u32
         requires link { link < length net.now.link_names }
         requires world { IsWorldOf net.now self.now }
-        ensures { (arriving : ℕ → ℕ → ℕ) (store : ℕ → ℕ) (shown : ℕ → ℕ → Option (ℕ × ℕ))
+        ensures { (arriving : ℕ → ℕ → ℕ) (store : ℕ → ℕ) (shown : ℕ → ℕ → Sign)
             → Stands net.now arriving store shown self.now
             → result ≡ near_on net.now (cumulative_in net.now arriving store shown self.now.second)
             self.now.second gap link }
@@ -196,10 +197,10 @@ impl SpillWorld {
         requires store { length store.now ≡ length net.now.link_names }
         requires arrivals { AreArrivals net.now arrivals.now }
         requires stands { Stands net.now (arriving_of arrivals.now) (slice_index store.now)
-            (standing_by (T.lines lights.now)) self.old }
+            (signs_by (T.lines lights.now)) self.old }
         ensures second { self.new.second ≡ self.old.second + seconds }
         ensures stands { Stands net.now (arriving_of arrivals.now) (slice_index store.now)
-            (standing_by (T.lines lights.now)) self.new }
+            (signs_by (T.lines lights.now)) self.new }
     {
         for _i in 0..seconds {
             self.pass(net, store, lights, arrivals);
@@ -212,18 +213,18 @@ impl SpillWorld {
         requires store { length store.now ≡ length net.now.link_names }
         requires arrivals { AreArrivals net.now arrivals.now }
         requires stands { Stands net.now (arriving_of arrivals.now) (slice_index store.now)
-            (standing_by (T.lines lights.now)) self.old }
+            (signs_by (T.lines lights.now)) self.old }
         ensures second { self.new.second ≡ self.old.second + 1 }
         ensures stands { Stands net.now (arriving_of arrivals.now) (slice_index store.now)
-            (standing_by (T.lines lights.now)) self.new }
+            (signs_by (T.lines lights.now)) self.new }
     {
         let x = self.second;
-        look(self.greens.as_mut_slice(), net, lights, x);
+        look(self.signs.as_mut_slice(), net, lights, x);
         let moment = Moment {
             net,
             store,
             lights,
-            greens: self.greens.as_slice(),
+            signs: self.signs.as_slice(),
             arrivals,
             totals: self.totals,
             second: x,
@@ -240,7 +241,7 @@ struct Moment<'a, T> {
     net: &'a Network,
     store: &'a Store,
     lights: &'a T,
-    greens: &'a [Option<Green>],
+    signs: &'a [Sign],
     arrivals: &'a Arrivals,
     totals: SpillTotals,
     second: u32,
@@ -252,16 +253,16 @@ fn pass_second<T: Lights>(links: &mut Links, moment: &Moment<T>) -> SpillTotals
     requires scratch { HaveScratch links.old }
     requires store { length moment.now.store.now ≡ length moment.now.net.now.link_names }
     requires arrivals { AreArrivals moment.now.net.now moment.now.arrivals.now }
-    requires greens { (n : ℕ) → n < length moment.now.net.now.node_names
-        → slice_index_or moment.now.greens.now n None ≡ green_at (T.lines moment.now.lights.now n) moment.now.second }
+    requires signs { (n : ℕ) → n < length moment.now.net.now.node_names
+        → slice_index_or moment.now.signs.now n Dark ≡ sign_at (T.lines moment.now.lights.now n) moment.now.second }
     requires stands { Stands moment.now.net.now (arriving_of moment.now.arrivals.now) (slice_index moment.now.store.now)
-        (standing_by (T.lines moment.now.lights.now))
-        (state_of links.old moment.now.second (length moment.now.greens.now) moment.now.totals) }
+        (signs_by (T.lines moment.now.lights.now))
+        (state_of links.old moment.now.second (length moment.now.signs.now) moment.now.totals) }
     ensures scratch { HaveScratch links.new }
     ensures whole { IsBalanced result }
     ensures stands { Stands moment.now.net.now (arriving_of moment.now.arrivals.now) (slice_index moment.now.store.now)
-        (standing_by (T.lines moment.now.lights.now))
-        (state_of links.new (moment.now.second + 1) (length moment.now.greens.now) result) }
+        (signs_by (T.lines moment.now.lights.now))
+        (state_of links.new (moment.now.second + 1) (length moment.now.signs.now) result) }
 {
     let net = moment.net;
     let store = moment.store;
@@ -276,7 +277,7 @@ fn pass_second<T: Lights>(links: &mut Links, moment: &Moment<T>) -> SpillTotals
     let waits = links.waits.as_mut_slice();
     let served = links.served.as_mut_slice();
     let out = reach_ends(leaving, queues, held, net, recent, x);
-    serve(served, net, waits, moment.greens, x);
+    serve(served, net, waits, moment.signs, x);
     clear(entering, all);
     let site = Site { net, store, served };
     discharge(leaving, queues, entering, held, &site);

@@ -23,10 +23,10 @@ returns-clause-safe c =
     (ended c.args.net.now c.law_of_network.ensures (arriving_of c.args.arrivals.now) c.play_rounds.new.world (record { timelines = c.from_vec.result; links = c.from_vec-2.result; totals = c.totals.result }) c.play_rounds.new.lines.items
     c.from_vec.ensures c.in_ok-play_rounds.ensures (c.from_vec-2.ensures ∙ c.in_ok-links.ensures) c.totals.ensures.value).safe
 
-pub returns-clause-greens : goal.returns-clause-greens
-returns-clause-greens c =
+pub returns-clause-signs : goal.returns-clause-signs
+returns-clause-signs c =
     (ended c.args.net.now c.law_of_network.ensures (arriving_of c.args.arrivals.now) c.play_rounds.new.world (record { timelines = c.from_vec.result; links = c.from_vec-2.result; totals = c.totals.result }) c.play_rounds.new.lines.items
-    c.from_vec.ensures c.in_ok-play_rounds.ensures (c.from_vec-2.ensures ∙ c.in_ok-links.ensures) c.totals.ensures.value).greens
+    c.from_vec.ensures c.in_ok-play_rounds.ensures (c.from_vec-2.ensures ∙ c.in_ok-links.ensures) c.totals.ensures.value).signs
 
 pub returns-clause-clean : goal.returns-clause-clean
 returns-clause-clean c =

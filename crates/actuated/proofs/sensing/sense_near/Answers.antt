@@ -3,7 +3,7 @@ use Rattle.net_parts.specs.declared.drafts.Run.{Run}
 use Rattle.arrivals.specs.Amounts.{arriving_of}
 use Rattle.net_simulator.specs.Flow.{cumulative_under}
 use Rattle.net_simulator.specs.Senses.{near_on}
-use Rattle.net_simulator.specs.Worlds.{standing_by}
+use Rattle.net_simulator.specs.Worlds.{signs_by}
 use Rattle.net_simulator.proofs.Seeing.{near-all-fits}
 use Rattle.actuated.proofs.NearLaws.{amounts-of, more-near}
 use Rattle.actuated.proofs.sensing.sense_near.Goals as goal
@@ -15,8 +15,8 @@ loop-link-preserved c =
     let w = c.args.world.now in
     record {
       count = length-set l.near l.link c.near.result ∙ l.invariant.count;
-      are = λ arriving lines stands. more-near (near_on net (cumulative_under net arriving (standing_by lines) w.second) w.second net.run.gap) l.near l.link c.near.result (omega (arith, c.loop-link-test.true, c.links-link-end.ensures.value, l.invariant.count, c.requires.near))
-          (c.near.ensures arriving lines stands ∙ ap (λ (r : Run). near_on net (cumulative_under net arriving (standing_by lines) w.second) w.second r.gap l.link) c.run.ensures.value) (l.invariant.are arriving lines stands);
+      are = λ arriving lines stands. more-near (near_on net (cumulative_under net arriving (signs_by lines) w.second) w.second net.run.gap) l.near l.link c.near.result (omega (arith, c.loop-link-test.true, c.links-link-end.ensures.value, l.invariant.count, c.requires.near))
+          (c.near.ensures arriving lines stands ∙ ap (λ (r : Run). near_on net (cumulative_under net arriving (signs_by lines) w.second) w.second r.gap l.link) c.run.ensures.value) (l.invariant.are arriving lines stands);
     }
 
 pub returns-clause-amounts : goal.returns-clause-amounts
@@ -25,6 +25,6 @@ returns-clause-amounts c =
     let net = c.args.net.now in
     let w = c.args.world.now in
     let world = c.requires.world in
-    amounts-of net (near_on net (cumulative_under net (arriving_of world.arrivals) (standing_by world.lines) w.second) w.second net.run.gap) l.near (l.invariant.count ∙ c.requires.near)
+    amounts-of net (near_on net (cumulative_under net (arriving_of world.arrivals) (signs_by world.lines) w.second) w.second net.run.gap) l.near (l.invariant.count ∙ c.requires.near)
     (λ k inside. l.invariant.are (arriving_of world.arrivals) world.lines world.stands k (omega (arith, inside, c.loop-link-test.false, c.links-link-end.ensures.value)))
     (near-all-fits net w net.run.gap c.links-link-end.ensures.network world)

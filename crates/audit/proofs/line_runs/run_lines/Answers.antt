@@ -1,7 +1,7 @@
 use Rattle.std.proofs.Common.{List, sym, subst, ◌∙◌}
 use Rattle.control_flow.specs.declared.greens.Green.{Green}
 use Rattle.arrivals.specs.Amounts.{arriving_of}
-use Rattle.net_simulator.specs.Worlds.{Stands, line_in, standing_by}
+use Rattle.net_simulator.specs.Worlds.{Stands, line_in, signs_by}
 use Rattle.signal_safety.proofs.Lines.{safe}
 use Rattle.audit.specs.SheetTexts.{HasShape}
 use Rattle.audit.specs.Audits.{AreLawful, IsClean}
@@ -11,7 +11,7 @@ use Rattle.audit.proofs.line_runs.run_lines.Goals as goal
 pub returns-clause-value : goal.returns-clause-value
 returns-clause-value c =
     counted-shown c.args.net.now (arriving_of c.args.arrivals.now) c.args.lines.items c.in_ok-world.world
-    (subst (λ (lines : List (List Green)). Stands c.args.net.now (arriving_of c.args.arrivals.now) (standing_by (line_in lines)) c.in_ok-world.world) c.as_slice.ensures.value c.in_ok-world.ensures.stands)
+    (subst (λ (lines : List (List Green)). Stands c.args.net.now (arriving_of c.args.arrivals.now) (signs_by (line_in lines)) c.in_ok-world.world) c.as_slice.ensures.value c.in_ok-world.ensures.stands)
     (c.in_ok-world.ensures.second ∙ c.end_of_run.ensures.value) c.from_vec.result c.from_vec-2.result c.totals.result c.from_vec.ensures (c.from_vec-2.ensures ∙ c.in_ok-links.ensures) c.totals.ensures.value
 
 pub returns-clause-shape : goal.returns-clause-shape

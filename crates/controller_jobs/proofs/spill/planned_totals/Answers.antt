@@ -1,7 +1,7 @@
 use Rattle.std.proofs.Common.{List, ap, ◌∙◌}
 use Rattle.arrivals.specs.Amounts.{arriving_of}
 use Rattle.control_flow.specs.declared.greens.Green.{Green}
-use Rattle.net_simulator.specs.Worlds.{line_in, standing_by}
+use Rattle.net_simulator.specs.Worlds.{line_in, signs_by}
 use Rattle.commands.specs.Storages.{spilled_under}
 use Rattle.controller_jobs.proofs.spill.planned_totals.Goals as goal
 
@@ -9,5 +9,5 @@ pub returns : goal.returns
 returns c = (
   c.in_ok-run.run',
   c.in_ok-run.ensures.kept,
-  c.in_ok-totals.ensures.value ∙ ap (λ (lines : List (List Green)). spilled_under c.args.net.now (arriving_of c.args.arrivals.now) c.args.store.now (standing_by (line_in lines))) c.as_slice.ensures,
+  c.in_ok-totals.ensures.value ∙ ap (λ (lines : List (List Green)). spilled_under c.args.net.now (arriving_of c.args.arrivals.now) c.args.store.now (signs_by (line_in lines))) c.as_slice.ensures,
 )

@@ -12,7 +12,7 @@ returns c =
       are_of_calls = of_calls.run;
       lawful = of_calls.lawful of_calls.run;
       safe = of_calls.safe of_calls.run;
-      greens = of_calls.greens of_calls.run;
+      signs = of_calls.signs of_calls.run;
       lines =
           c.in_ok-push_totals-2.ensures
           ∙ ap (λ (t : List ℕ). t ++ spilled_line (codes "actuated") c.in_ok-of_calls.of_calls)

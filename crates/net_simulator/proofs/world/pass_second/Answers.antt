@@ -4,7 +4,7 @@ use Rattle.net_simulator.proofs.Passing.{few-of, begun-by, room-leave, room-ente
 use Rattle.net_simulator.proofs.world.pass_second.Goals as goal
 
 pub leave-requires-clause-begun : goal.leave-requires-clause-begun
-leave-requires-clause-begun g c = begun-by c.args.moment.now.greens.now (length c.args.moment.now.net.now.node_names) (g.T.Lights.lines c.args.moment.now.lights.now) c.args.moment.now.second c.requires.greens
+leave-requires-clause-begun g c = begun-by c.args.moment.now.signs.now (length c.args.moment.now.net.now.node_names) (g.T.Lights.lines c.args.moment.now.lights.now) c.args.moment.now.second c.requires.signs
 
 pub leave-requires-clause-fits : goal.leave-requires-clause-fits
 leave-requires-clause-fits g c =
@@ -12,7 +12,7 @@ leave-requires-clause-fits g c =
 
 pub enter-out-requires-clause-fits : goal.enter-out-requires-clause-fits
 enter-out-requires-clause-fits g c =
-    let leaves = leaves-now c.args.moment.now.net.now c.links-links.ensures.network (arriving_of c.args.moment.now.arrivals.now) (g.T.Lights.lines c.args.moment.now.lights.now) (few-of c.args.moment.now.net.now c.links-links.ensures.network c.args.moment.now.arrivals.now c.requires.arrivals) _ c.requires.stands c.args.moment.now.greens.now c.arrive-arriving.new.recent c.leave.new.leaving c.requires.greens c.arrive-arriving.ensures.others c.leave.ensures.leaving in
+    let leaves = leaves-now c.args.moment.now.net.now c.links-links.ensures.network (arriving_of c.args.moment.now.arrivals.now) (g.T.Lights.lines c.args.moment.now.lights.now) (few-of c.args.moment.now.net.now c.links-links.ensures.network c.args.moment.now.arrivals.now c.requires.arrivals) _ c.requires.stands c.args.moment.now.signs.now c.arrive-arriving.new.recent c.leave.new.leaving c.requires.signs c.arrive-arriving.ensures.others c.leave.ensures.leaving in
     room-enter c.args.moment.now.net.now c.links-links.ensures.network (arriving_of c.args.moment.now.arrivals.now) (g.T.Lights.lines c.args.moment.now.lights.now) (few-of c.args.moment.now.net.now c.links-links.ensures.network c.args.moment.now.arrivals.now c.requires.arrivals) _ c.requires.stands c.arrive-arriving.new.recent c.leave.new.leaving leaves
     (rw c.links-links.ensures.value at c.arrive-arriving.ensures.here)
 
@@ -30,7 +30,7 @@ overflow_add-entered g c =
 
 pub overflow_sub-result : goal.overflow_sub-result
 overflow_sub-result g c =
-    let leaves = leaves-now c.args.moment.now.net.now c.links-links.ensures.network (arriving_of c.args.moment.now.arrivals.now) (g.T.Lights.lines c.args.moment.now.lights.now) (few-of c.args.moment.now.net.now c.links-links.ensures.network c.args.moment.now.arrivals.now c.requires.arrivals) _ c.requires.stands c.args.moment.now.greens.now c.arrive-arriving.new.recent c.leave.new.leaving c.requires.greens c.arrive-arriving.ensures.others c.leave.ensures.leaving in
+    let leaves = leaves-now c.args.moment.now.net.now c.links-links.ensures.network (arriving_of c.args.moment.now.arrivals.now) (g.T.Lights.lines c.args.moment.now.lights.now) (few-of c.args.moment.now.net.now c.links-links.ensures.network c.args.moment.now.arrivals.now c.requires.arrivals) _ c.requires.stands c.args.moment.now.signs.now c.arrive-arriving.new.recent c.leave.new.leaving c.requires.signs c.arrive-arriving.ensures.others c.leave.ensures.leaving in
     let room = room-left c.args.moment.now.net.now c.links-links.ensures.network (arriving_of c.args.moment.now.arrivals.now) (g.T.Lights.lines c.args.moment.now.lights.now) (few-of c.args.moment.now.net.now c.links-links.ensures.network c.args.moment.now.arrivals.now c.requires.arrivals) _ c.requires.stands c.leave.new.leaving leaves in
     let all = rw c.links-links.ensures.value at c.arrive-arriving.ensures.all in
     omega (arith, room, all, c.enter-out.ensures.out)
@@ -39,7 +39,7 @@ pub overflow_add-left : goal.overflow_add-left
 overflow_add-left g c =
     let room = room-entered c.args.moment.now.net.now c.links-links.ensures.network (arriving_of c.args.moment.now.arrivals.now) (g.T.Lights.lines c.args.moment.now.lights.now) (few-of c.args.moment.now.net.now c.links-links.ensures.network c.args.moment.now.arrivals.now c.requires.arrivals) _ c.requires.stands in
     let all = rw c.links-links.ensures.value at c.arrive-arriving.ensures.all in
-    let leaves = leaves-now c.args.moment.now.net.now c.links-links.ensures.network (arriving_of c.args.moment.now.arrivals.now) (g.T.Lights.lines c.args.moment.now.lights.now) (few-of c.args.moment.now.net.now c.links-links.ensures.network c.args.moment.now.arrivals.now c.requires.arrivals) _ c.requires.stands c.args.moment.now.greens.now c.arrive-arriving.new.recent c.leave.new.leaving c.requires.greens c.arrive-arriving.ensures.others c.leave.ensures.leaving in
+    let leaves = leaves-now c.args.moment.now.net.now c.links-links.ensures.network (arriving_of c.args.moment.now.arrivals.now) (g.T.Lights.lines c.args.moment.now.lights.now) (few-of c.args.moment.now.net.now c.links-links.ensures.network c.args.moment.now.arrivals.now c.requires.arrivals) _ c.requires.stands c.args.moment.now.signs.now c.arrive-arriving.new.recent c.leave.new.leaving c.requires.signs c.arrive-arriving.ensures.others c.leave.ensures.leaving in
     let less = room-left c.args.moment.now.net.now c.links-links.ensures.network (arriving_of c.args.moment.now.arrivals.now) (g.T.Lights.lines c.args.moment.now.lights.now) (few-of c.args.moment.now.net.now c.links-links.ensures.network c.args.moment.now.arrivals.now c.requires.arrivals) _ c.requires.stands c.leave.new.leaving leaves in
     omega (arith, room, all, less, c.enter-out.ensures.out)
 
@@ -51,17 +51,17 @@ overflow_add-result g c =
 
 pub returns-clause-whole : goal.returns-clause-whole
 returns-clause-whole g c =
-    let leaves = leaves-now c.args.moment.now.net.now c.links-links.ensures.network (arriving_of c.args.moment.now.arrivals.now) (g.T.Lights.lines c.args.moment.now.lights.now) (few-of c.args.moment.now.net.now c.links-links.ensures.network c.args.moment.now.arrivals.now c.requires.arrivals) _ c.requires.stands c.args.moment.now.greens.now c.arrive-arriving.new.recent c.leave.new.leaving c.requires.greens c.arrive-arriving.ensures.others c.leave.ensures.leaving in
+    let leaves = leaves-now c.args.moment.now.net.now c.links-links.ensures.network (arriving_of c.args.moment.now.arrivals.now) (g.T.Lights.lines c.args.moment.now.lights.now) (few-of c.args.moment.now.net.now c.links-links.ensures.network c.args.moment.now.arrivals.now c.requires.arrivals) _ c.requires.stands c.args.moment.now.signs.now c.arrive-arriving.new.recent c.leave.new.leaving c.requires.signs c.arrive-arriving.ensures.others c.leave.ensures.leaving in
     let room = room-left c.args.moment.now.net.now c.links-links.ensures.network (arriving_of c.args.moment.now.arrivals.now) (g.T.Lights.lines c.args.moment.now.lights.now) (few-of c.args.moment.now.net.now c.links-links.ensures.network c.args.moment.now.arrivals.now c.requires.arrivals) _ c.requires.stands c.leave.new.leaving leaves in
     let all = rw c.links-links.ensures.value at c.arrive-arriving.ensures.all in
     omega (arith, room, all, c.enter-out.ensures.out)
 
 pub returns-clause-stands : goal.returns-clause-stands
 returns-clause-stands g c =
-    stands-next c.args.moment.now.net.now c.links-links.ensures.network (arriving_of c.args.moment.now.arrivals.now) (g.T.Lights.lines c.args.moment.now.lights.now) (few-of c.args.moment.now.net.now c.links-links.ensures.network c.args.moment.now.arrivals.now c.requires.arrivals) _ c.requires.stands c.args.moment.now.greens.now c.arrive-arriving.new.recent c.leave.new.leaving
+    stands-next c.args.moment.now.net.now c.links-links.ensures.network (arriving_of c.args.moment.now.arrivals.now) (g.T.Lights.lines c.args.moment.now.lights.now) (few-of c.args.moment.now.net.now c.links-links.ensures.network c.args.moment.now.arrivals.now c.requires.arrivals) _ c.requires.stands c.args.moment.now.signs.now c.arrive-arriving.new.recent c.leave.new.leaving
     (record {
       second = c.args.moment.now.second + 1;
-      nodes = length c.args.moment.now.greens.now;
+      nodes = length c.args.moment.now.signs.now;
       queues = c.leave.new.queues;
       recent = c.enter-out.new.recent;
       waits = c.remember.new.waits;
@@ -76,7 +76,7 @@ returns-clause-stands g c =
     })
     c.requires.second refl
     (let s = c.requires.stands.shape in record { nodes = omega arith; queues = omega arith; recent = omega arith; waits = omega arith; stood = omega arith; counts = omega arith })
-    c.requires.greens
+    c.requires.signs
     (record {
       arrives = rw c.links-links.ensures.value at c.arrive-arriving.ensures.here;
       arrives-others = c.arrive-arriving.ensures.others;

@@ -2,7 +2,7 @@ use Rattle.std.proofs.Common.{ap, ◌∙◌, arith, length-set}
 use Rattle.net_parts.specs.declared.drafts.Run.{Run}
 use Rattle.arrivals.specs.Amounts.{arriving_of}
 use Rattle.net_simulator.specs.Senses.{near_on}
-use Rattle.net_simulator.specs.Worlds.{standing_by}
+use Rattle.net_simulator.specs.Worlds.{signs_by}
 use Rattle.spillback_world.specs.Storage.{cumulative_in}
 use Rattle.spillback_world.proofs.Sensing.{near-all-fits}
 use Rattle.actuated.proofs.NearLaws.{amounts-of, more-near}
@@ -25,6 +25,6 @@ returns-clause-amounts c =
     let net = c.args.net.now in
     let w = c.args.world.now in
     let world = c.requires.world in
-    amounts-of net (near_on net (cumulative_in net (arriving_of world.arrivals) world.store (standing_by world.lines) w.second) w.second net.run.gap) l.near (l.invariant.count ∙ c.requires.near)
-    (λ k inside. l.invariant.are (arriving_of world.arrivals) world.store (standing_by world.lines) world.stands k (omega (arith, inside, c.loop-link-test.false, c.links-link-end.ensures.value)))
+    amounts-of net (near_on net (cumulative_in net (arriving_of world.arrivals) world.store (signs_by world.lines) w.second) w.second net.run.gap) l.near (l.invariant.count ∙ c.requires.near)
+    (λ k inside. l.invariant.are (arriving_of world.arrivals) world.store (signs_by world.lines) world.stands k (omega (arith, inside, c.loop-link-test.false, c.links-link-end.ensures.value)))
     (near-all-fits net c.links-link-end.ensures.network w world net.run.gap)

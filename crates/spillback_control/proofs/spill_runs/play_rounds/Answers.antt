@@ -3,7 +3,7 @@ use Rattle.control_flow.specs.declared.greens.Green.{Green}
 use Rattle.clusters.proofs.SeenLaws.{written}
 use Rattle.net_parts.specs.Outline.{plan_at}
 use Rattle.arrivals.specs.Amounts.{arriving_of}
-use Rattle.net_simulator.specs.Worlds.{line_in, standing_by}
+use Rattle.net_simulator.specs.Worlds.{line_in, signs_by}
 use Rattle.actuated.specs.ActSteps.{act_rounds}
 use Rattle.actuated.specs.Rounds.{AreAmounts, AreRenewed, IsReady}
 use Rattle.actuated.specs.RunsSoFar.{AreNear}
@@ -60,7 +60,7 @@ advance-requires-clause-stands c =
     let store = slice_index c.args.store.now in
     let renewed = c.renew_lines.new.lines.items in
     let are = subst (λ s. AreRenewed net c.as_slice.result.now s (length net.node_names) l.lines.items renewed) c.now.ensures c.in_ok-renew_lines.ensures in
-    subst (λ (lines : List (List Green)). Stands net arriving store (standing_by (line_in lines)) l.world) (sym c.as_slice-in-loop-round.ensures.value)
+    subst (λ (lines : List (List Green)). Stands net arriving store (signs_by (line_in lines)) l.world) (sym c.as_slice-in-loop-round.ensures.value)
     (renewed-stands net c.act_rounds-rounds.ensures.network arriving store l._round l.lines.items renewed c.as_slice.result.now l.world l.invariant.played are)
 
 pub loop-round-preserved : goal.loop-round-preserved
@@ -74,10 +74,10 @@ loop-round-preserved c =
     let count = c.sense_near.ensures.amounts.count in
     let list = written l.near.items c.sense_near.new.near l.near.len (count ∙ sym l.invariant.near) l.near.ok.0 in
     let are = subst (λ s. AreRenewed net near s (length net.node_names) l.lines.items renewed) c.now.ensures c.in_ok-renew_lines.ensures in
-    let sensed = subst (AreNear net (cumulative_in net arriving store (standing_by (line_in l.lines.items)) l.world.second) l.world.second) (sym (c.as_slice.ensures.value ∙ list)) (c.sense_near.ensures.near arriving store (standing_by (line_in l.lines.items)) l.invariant.played.stands) in
+    let sensed = subst (AreNear net (cumulative_in net arriving store (signs_by (line_in l.lines.items)) l.world.second) l.world.second) (sym (c.as_slice.ensures.value ∙ list)) (c.sense_near.ensures.near arriving store (signs_by (line_in l.lines.items)) l.invariant.played.stands) in
     record {
       near = ap length list ∙ count;
       played = more-spilled net c.act_rounds-rounds.ensures.network arriving store l._round l.lines.items renewed near l.world l.invariant.played are sensed c.advance.new.self
           (c.advance.ensures.second ∙ ap (λ s. l.world.second + s) c.act_step-step.ensures.value)
-          (subst (λ (lines : List (List Green)). Stands net arriving store (standing_by (line_in lines)) c.advance.new.self) c.as_slice-in-loop-round.ensures.value c.advance.ensures.stands);
+          (subst (λ (lines : List (List Green)). Stands net arriving store (signs_by (line_in lines)) c.advance.new.self) c.as_slice-in-loop-round.ensures.value c.advance.ensures.stands);
     }

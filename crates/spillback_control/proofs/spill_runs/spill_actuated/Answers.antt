@@ -17,5 +17,5 @@ returns-clause-lawful c is = last-lawful c.args.net.now c.law_of_network.ensures
 pub returns-clause-safe : goal.returns-clause-safe
 returns-clause-safe c is = last-safe c.args.net.now c.law_of_network.ensures (arriving_of c.args.arrivals.now) (slice_index c.args.store.now) c.totals.result is
 
-pub returns-clause-greens : goal.returns-clause-greens
-returns-clause-greens c is = last-show c.args.net.now c.law_of_network.ensures (arriving_of c.args.arrivals.now) (slice_index c.args.store.now) c.totals.result is
+pub returns-clause-signs : goal.returns-clause-signs
+returns-clause-signs c is = last-show c.args.net.now c.law_of_network.ensures (arriving_of c.args.arrivals.now) (slice_index c.args.store.now) c.totals.result is

@@ -1,15 +1,16 @@
-use Rattle.std.proofs.Common.{ℕ, ◌*◌, None, length, refl, ap, ◌∙◌}
+use Rattle.std.proofs.Common.{ℕ, ◌*◌, length, refl, ap, ◌∙◌}
 use Rattle.std.proofs.lemmas.List.{length-replicate}
 use Rattle.net_simulator.specs.Counts.{no_totals}
 use Rattle.net_simulator.proofs.Passing.{stands-new, zeros}
 use Rattle.net_simulator.proofs.world.World.new.Goals as goal
+use Rattle.control_flow.specs.declared.greens.Sign.TheVariants.{Dark}
 
 pub returns-clause-stands : goal.returns-clause-stands
 returns-clause-stands c arriving shown =
     let links = c.links-links.ensures.value in
     stands-new c.args.net.now arriving shown _ refl
     (record {
-      nodes = ap length c.in_ok-greens.ensures ∙ length-replicate _ None ∙ c.nodes.ensures.value;
+      nodes = ap length c.in_ok-signs.ensures ∙ length-replicate _ Dark ∙ c.nodes.ensures.value;
       queues = ap length c.in_ok-queues.ensures ∙ length-replicate _ 0 ∙ links;
       recent = ap length c.in_ok-recent.ensures ∙ length-replicate _ 0 ∙ ap (λ (n : ℕ). n * 128) links;
       waits = ap length c.in_ok-waits.ensures ∙ length-replicate _ 0 ∙ ap (λ (n : ℕ). n * 128) links;

@@ -4,7 +4,7 @@ use Rattle.intersection_actor.specs.Acting.{Acting, without_records}
 use Rattle.net_parts.specs.declared.drafts.Run.{Run}
 use Rattle.net_parts.specs.Numbers.{Net}
 use Rattle.arrivals.specs.Amounts.{arriving_of}
-use Rattle.net_simulator.specs.Worlds.{Stands, standing_by}
+use Rattle.net_simulator.specs.Worlds.{Stands, signs_by}
 use Rattle.runs.specs.Ending.{records_in}
 use Rattle.runs.specs.Resting.{lines_of}
 use Rattle.node_rounds.specs.Rounds.{Between, names}
@@ -35,7 +35,7 @@ meet-requires-clause-boards g c =
 pub move_world-requires-clause-stands : goal.move_world-requires-clause-stands
 move_world-requires-clause-stands g c =
     let r = c.args.self.now in
-    subst (λ (l : List Acting). Stands r.net.now (arriving_of r.arrivals.now) (standing_by (lines_of l)) r.world) (sym c.meet.ensures.actors)
+    subst (λ (l : List Acting). Stands r.net.now (arriving_of r.arrivals.now) (signs_by (lines_of l)) r.world) (sym c.meet.ensures.actors)
     (over-before r.net.now c.run-step.ensures.network r.arrivals.now c.args.round r.boards.now (passes_in r.nodes.all.items) (actors_in r.nodes.all.items) r.world r.plans c.requires.at.between c.requires.round
     (actors_in c.play.new.self.all.items) (passes_in c.play.new.self.all.items) (all-played r.net.now r.boards.now c.args.round r.world r.nodes.all.items c.play.new.self.all.items c.requires.at.tasks c.in_ok-play.ensures.played))
 
@@ -63,8 +63,8 @@ returns-clause-at g c =
     let net = r.net.now in
     let world = c.move_world.new.world in
     let played = all-played net r.boards.now c.args.round r.world old new at.tasks c.in_ok-play.ensures.played in
-    let stands : Stands net (arriving_of r.arrivals.now) (standing_by (lines_of (actors_in new))) world =
-    subst (λ (l : List Acting). Stands net (arriving_of r.arrivals.now) (standing_by (lines_of l)) world) c.meet.ensures.actors c.move_world.ensures.stands in
+    let stands : Stands net (arriving_of r.arrivals.now) (signs_by (lines_of (actors_in new))) world =
+    subst (λ (l : List Acting). Stands net (arriving_of r.arrivals.now) (signs_by (lines_of l)) world) c.meet.ensures.actors c.move_world.ensures.stands in
     let added = c.move_records.ensures.plans ∙ ap (λ (l : List Acting). r.plans.items ++ records_in l) c.meet.ensures.actors in
     let over = round-over net c.run-step.ensures.network r.arrivals.now c.args.round r.boards.now (passes_in old) (actors_in old) r.world r.plans at.between c.requires.round (actors_in new) (passes_in new) played
     c.in_ok-play.ensures.same world c.move_records.new.plans (c.move_world.ensures.second ∙ ap (λ (x : Run). r.world.second + x.step) c.run-step.ensures.value) stands added c.move_records.ensures.capacity in
