@@ -1,5 +1,5 @@
 -- The numbers of a draft within its bounds.
-use Rattle.std.proofs.Common.{◌≡◌, ℕ, ◌<◌, ◌≤◌, List, [], length, get_or, All, Some, None, refl, ◌∙◌, sym, arith}
+use Rattle.std.proofs.Common.{◌≡◌, ℕ, ◌<◌, ◌≤◌, List, [], length, get_or, All, Some, None, refl, ap, ◌∙◌, sym, arith}
 use Rattle.std.specs.Bool.{⊤}
 use Rattle.std.proofs.lemmas.List.{length-map, get_or-map, get_or_default}
 use Rattle.std.proofs.lemmas.List.Elements.{All-map, All-weaker}
@@ -17,9 +17,9 @@ use Rattle.net_parts.specs.declared.drafts.DraftConflict.{DraftConflict}
 use Rattle.net_parts.specs.declared.roads.Link.{Link}
 use Rattle.net_parts.specs.declared.roads.Turn.{Turn}
 use Rattle.net_parts.specs.Bounds.{IsName, IsBounded, IsBoundedNode, IsBoundedPhase, IsBoundedLink, IsBoundedTurn}
-use Rattle.net_parts.specs.Numbers.{Net, no_link, AreDistinct, number_of, number_if, phase_of, plan_of, phases_of, link_of, turn_of, turns_of, conflict_of, node_names, link_names, numbered}
-use Rattle.net_parts.specs.Outline.{IsOutline, IsLink, AreTurns, ArePhaseLinks, phases_at, plan_at, link_at}
-use Rattle.net_parts.proofs.DraftParts.{IsNumbered, numbered-parts, number_of-within, number_if-within, number_of-own}
+use Rattle.net_parts.specs.Numbers.{Net, no_link, AreDistinct, number_of, number_if, phase_of, plan_of, also_of, phases_of, link_of, turn_of, turns_of, conflict_of, node_names, link_names, numbered}
+use Rattle.net_parts.specs.Outline.{IsOutline, IsLink, AreTurns, ArePhaseLinks, AreAlsoLinks, phases_at, phase_links_at, also_at, also_links_at, plan_at, link_at}
+use Rattle.net_parts.proofs.DraftParts.{IsNumbered, numbered-parts, number_of-within, number_if-within, number_of-own, no-overlaps}
 use Rattle.net_build.proofs.Plans.{IsPlan-from_bounds}
 
 anything : {X : Type 0} (xs : List X) → All (λ _. ⊤) xs
@@ -102,6 +102,22 @@ module _ (d : Draft) (net : Net) (bounds : IsBounded d) (nodes_differ : AreDisti
       let planned : plan_at net n ≡ plan_of (get_or d.nodes n no_node) = rw (is.plans, get_or-map plan_of d.nodes n no_node [] inside) in
       listed ∙ sym (rw (planned, length-map))
 
+  -- the further links of its phases: none
+  also-none : (n : ℕ) → n < length net.node_names → also_at net n ≡ also_of (get_or d.nodes n no_node)
+  also-none n h =
+      let inside : n < length d.nodes = omega (arith, node_total) in
+      rw (is.also_links, get_or-map also_of d.nodes n no_node [] inside) refl
+
+  outline-also : (n : ℕ) → n < length net.node_names → length (also_at net n) ≡ length (plan_at net n)
+  outline-also n h =
+      let inside : n < length d.nodes = omega (arith, node_total) in
+      let planned : plan_at net n ≡ plan_of (get_or d.nodes n no_node) = rw (is.plans, get_or-map plan_of d.nodes n no_node [] inside) in
+      let phases : List DraftPhase = (get_or d.nodes n no_node).phases in
+      ap length (also-none n h) ∙ length-map phases (λ (p : DraftPhase). []) ∙ sym (ap length planned ∙ length-map phases (λ (p : DraftPhase). p.phase))
+
+  also-bounds : (n k : ℕ) → n < length net.node_names → k < length (plan_at net n) → AreAlsoLinks net n (phase_links_at net n k) (also_links_at net n k)
+  also-bounds n k h below = rw (no-overlaps d net is n k) (record { count = omega arith; exist = λ i e inside. absurd (omega arith); ends = λ i e inside. absurd (omega arith); differ = λ i j e less inside. absurd (omega arith); further = λ l serves also. absurd (omega (arith, also.1)) })
+
   outline-own : (l : ℕ) → l < length net.links → (link_at net l).phase ≡ phase_of net.phase_links l (link_at net l).to
   outline-own l h =
       let inside : l < length d.links = omega (arith, each-length (link_of (node_names d) (link_names d) net.phase_links) d.links net.links is.links) in
@@ -124,6 +140,9 @@ module _ (d : Draft) (net : Net) (bounds : IsBounded d) (nodes_differ : AreDisti
     phases_count = each-length (phases_of (link_names d)) d.nodes net.phase_links is.phase_links ∙ sym node_total;
     phase_counts = outline-phases;
     phase_links = rw is.names (each-All (phases_of (link_names d)) IsBoundedNode (All (ArePhaseLinks (length (link_names d)))) (phases-bounds (link_names d)) d.nodes net.phase_links bounds.nodes is.phase_links);
+    also_count = rw (is.also_links, length-map) (sym node_total);
+    also_counts = outline-also;
+    also_links = also-bounds;
     road_count = each-length (link_of (node_names d) (link_names d) net.phase_links) d.links net.links is.links ∙ sym link_total;
     links = rw is.nodes (each-All (link_of (node_names d) (link_names d) net.phase_links) IsBoundedLink (IsLink (length (node_names d))) (road-bounds (node_names d) (link_names d) net.phase_links) d.links net.links bounds.links is.links);
     phases = outline-own;

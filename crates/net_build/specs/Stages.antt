@@ -20,4 +20,4 @@ pub record AreTables (d : Draft) (ns ls : List (List ℕ)) (phase_links : List (
 
 -- the network of a draft with these lists
 abbrev pub net_with : Draft → List (List (List ℕ)) → Lists → Net
-net_with d phase_links lists = record { run = d.run; node_names = node_names d; plans = lists.plans.items; phase_links = phase_links; link_names = link_names d; links = lists.links.items; turns = lists.turns.items; conflicts = lists.conflicts.items }
+net_with d phase_links lists = record { run = d.run; node_names = node_names d; plans = lists.plans.items; phase_links = phase_links; also_links = lists.also_links.items; link_names = link_names d; links = lists.links.items; turns = lists.turns.items; conflicts = lists.conflicts.items }

@@ -39,6 +39,7 @@ pub(crate) fn number_draft(alloc: Global, draft: &Draft) -> Result<Parts, NetFau
         node_names,
         plans: lists.plans,
         phase_links,
+        also_links: lists.also_links,
         link_names,
         links: lists.links,
         turns: lists.turns,
@@ -72,6 +73,7 @@ struct Lists {
     turns: Vec<Items<Turn>>,
     conflicts: Vec<(u32, u32)>,
     plans: Vec<PhasePlan>,
+    also_links: Vec<Items<Items<u32>>>,
 }
 
 /// The links of each phase of each node, and all that is numbered after them.
@@ -97,7 +99,7 @@ fn phases_and_lists(
     Ok((phase_links, lists))
 }
 
-/// The links with their turns, the conflicts and the plans, in this order.
+/// The links with their turns, the conflicts, the plans and the further links of phases, in this order.
 fn lists_by_names(alloc: Global, names: &Tables, draft: &Draft) -> Result<Lists, NetFault>
     requires bounds { IsBounded draft.now }
     requires tables { AreTables draft.now names.now.nodes.now names.now.links.now names.now.phase_links.now }
@@ -107,11 +109,13 @@ fn lists_by_names(alloc: Global, names: &Tables, draft: &Draft) -> Result<Lists,
     let (links, turns) = roads(alloc, names, draft.links.as_slice())?;
     let conflicts = conflicts(alloc, names.links, draft.conflicts.as_slice())?;
     let plans = plans(alloc, draft.nodes.as_slice())?;
+    let also_links = also_links(alloc, draft.nodes.as_slice())?;
     Ok(Lists {
         links,
         turns,
         conflicts,
         plans,
+        also_links,
     })
 }
 
@@ -395,6 +399,29 @@ fn plan(alloc: Global, phases: &[DraftPhase]) -> Result<PhasePlan, AllocError>
         Ok(plan) => Ok(plan),
         Err(_) => unreachable!(),
     }
+}
+
+/// The further links of each phase of each node: none.
+fn also_links(alloc: Global, nodes: &[DraftNode]) -> Result<Vec<Items<Items<u32>>>, AllocError>
+    ensures { IfOk result (λ lists. lists.items ≡ map spec.also_of nodes.now) }
+{
+    let mut lists = Vec::new(alloc);
+    for node in nodes {
+        let phases = also_of_phases(alloc, node.phases.as_slice())?;
+        lists.push(Items::from_vec(phases))?;
+    }
+    Ok(lists)
+}
+
+/// The further links of each of these phases: none.
+fn also_of_phases(alloc: Global, phases: &[DraftPhase]) -> Result<Vec<Items<u32>>, AllocError>
+    ensures { IfOk result (λ lists. lists.items ≡ map (λ p. []) phases.now) }
+{
+    let mut lists = Vec::new(alloc);
+    for _phase in phases {
+        lists.push(Items::from_vec(Vec::new(alloc)))?;
+    }
+    Ok(lists)
 }
 
 /// The times of these phases.

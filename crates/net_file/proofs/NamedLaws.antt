@@ -11,8 +11,8 @@ use Rattle.net_parts.specs.declared.drafts.DraftPhase.{DraftPhase}
 use Rattle.net_parts.specs.declared.drafts.DraftLink.{DraftLink}
 use Rattle.net_parts.specs.declared.roads.Turn.{Turn}
 use Rattle.net_parts.specs.Bounds.{IsBounded, IsBoundedNode, IsBoundedPhase, IsBoundedLink, IsBoundedTurn}
-use Rattle.net_parts.specs.Numbers.{Net, AreDistinct, no_link, number_of, number_if, plan_of, phases_of, link_of, turn_of, turns_of, conflict_of, roads_of, node_names, link_names, numbered}
-use Rattle.net_parts.specs.Outline.{IsOutline, IsLink, AreTurns, ArePhaseLinks, link_at, turns_at, plan_at, phases_at}
+use Rattle.net_parts.specs.Numbers.{Net, AreDistinct, no_link, number_of, number_if, plan_of, also_of, phases_of, link_of, turn_of, turns_of, conflict_of, roads_of, node_names, link_names, numbered}
+use Rattle.net_parts.specs.Outline.{IsOutline, IsLink, AreTurns, ArePhaseLinks, HasNoOverlaps, also_at, link_at, turns_at, plan_at, phases_at}
 use Rattle.net_parts.specs.Parts.{IsNetOf}
 use Rattle.net_parts.proofs.DraftParts.{IsNumbered, number_of-own}
 use Rattle.net_file.specs.ByNames.{name_in, AreNumbers, phase_by_names, node_by_names, turn_by_names, link_by_names, conflict_by_names, draft_by_names}
@@ -40,9 +40,9 @@ numbered-from : (d : Draft) (net : Net) → IsNumbered d net → numbered d ≡ 
 unfolding numbered roads_of
 numbered-from d net is =
     rw (is.phase_links, is.links, is.turns, is.conflicts)
-    (λ i. Some (record { run = sym is.run i; node_names = sym is.nodes i; plans = sym is.plans i; phase_links = net.phase_links; link_names = sym is.names i; links = net.links; turns = net.turns; conflicts = net.conflicts }))
+    (λ i. Some (record { run = sym is.run i; node_names = sym is.nodes i; plans = sym is.plans i; phase_links = net.phase_links; also_links = sym is.also_links i; link_names = sym is.names i; links = net.links; turns = net.turns; conflicts = net.conflicts }))
 
-module _ (net : Net) (ok : IsOutline net) where
+module _ (net : Net) (ok : IsOutline net) (none : HasNoOverlaps net) where
   -- the links of the phases of a node
   lists-numbers : (n : ℕ) → n < length net.node_names → All (ArePhaseLinks (length net.link_names)) (phases_at net n)
   lists-numbers n h = let inside : n < length net.phase_links = omega (arith, ok.phases_count) in ok.phase_links n [] inside
@@ -60,6 +60,11 @@ module _ (net : Net) (ok : IsOutline net) where
   plan-own : (n : ℕ) → plan_of (node_by_names net n) ≡ plan_at net n
   unfolding node_by_names
   plan-own n = map-range (λ (p : DraftPhase). p.phase) (phase_by_names net.link_names (plan_at net n) (phases_at net n)) (length (plan_at net n)) (plan_at net n) no_phase refl (λ k below. refl)
+
+  -- the further links of its phases
+  also-own : (n : ℕ) → n < length net.node_names → also_of (node_by_names net n) ≡ also_at net n
+  unfolding node_by_names
+  also-own n h = map-range (λ (p : DraftPhase). []) (phase_by_names net.link_names (plan_at net n) (phases_at net n)) (length (plan_at net n)) (also_at net n) [] (ok.also_counts n h) (λ k below. sym (none n k))
 
   node-name : (n : ℕ) → (node_by_names net n).name ≡ name_in net.node_names n
   unfolding node_by_names
@@ -106,6 +111,10 @@ module _ (net : Net) (ok : IsOutline net) where
   unfolding draft_by_names
   plans-own = map-range plan_of (node_by_names net) (length net.node_names) net.plans [] ok.plan_count (λ k h. plan-own k)
 
+  all_also-own : map also_of (draft_by_names net).nodes ≡ net.also_links
+  unfolding draft_by_names
+  all_also-own = map-range also_of (node_by_names net) (length net.node_names) net.also_links [] ok.also_count (λ k h. also-own k h)
+
   links-own : each (link_of net.node_names net.link_names net.phase_links) (draft_by_names net).links ≡ Some net.links
   unfolding draft_by_names
   links-own = each-range (link_of net.node_names net.link_names net.phase_links) (link_by_names net) 0 (length net.link_names) net.links no_link ok.road_count (λ k h. rw zero-add (link-own k h))
@@ -131,6 +140,7 @@ module _ (net : Net) (ok : IsOutline net) where
         run = sym run-own;
         nodes = nodes;
         plans = sym plans-own;
+        also_links = sym all_also-own;
         phase_links = subst (λ (names : List (List ℕ)). each (phases_of names) d.nodes ≡ Some net.phase_links) links lists-own;
         names = links;
         links = subst (λ (names : List (List ℕ)). each (link_of names (link_names d) net.phase_links) d.links ≡ Some net.links) nodes (subst (λ (names : List (List ℕ)). each (link_of net.node_names names net.phase_links) d.links ≡ Some net.links) links links-own);

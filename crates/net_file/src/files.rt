@@ -1,6 +1,7 @@
 //! A network from its file, and the file of a network.
 ghost use Rattle.std.specs.Prelude.{◌<◌, ◌^◌, IfOk, IfErr, length};
 ghost use Rattle.net_parts.specs.Numbers.{Net};
+ghost use Rattle.net_parts.specs.Outline.{HasNoOverlaps};
 ghost use Rattle.net_tables.specs.Faults.{Unless};
 ghost use Rattle.net_file.specs.NetworkText.{IsNetworkText, IsCause};
 ghost use Rattle.net_file.specs.Reading.{Drafts};
@@ -60,10 +61,12 @@ fn parse_draft(alloc: Global, bytes: &[u8]) -> Result<Draft, NetFault>
 
 /// The network file of a network, of version 2: it has every mark and weight, and of what else may be absent `split`
 /// where it is true, `age`, `hold`, `act_step` and the ends of links where the network has them, and an array where it is not
-/// empty. What is read from it is this very network, with the same value of every accessor. `Err`: out of memory.
+/// empty. What is read from it is this very network, with the same value of every accessor. No file names further links of a
+/// phase yet, so the network has none. `Err`: out of memory.
 ///
 /// docs/FORMATS.md, "Network file".
 pub fn write_network(alloc: Global, net: &Network) -> Result<Vec<u8>, AllocError>
+    requires { HasNoOverlaps net.now }
     ensures { IfOk result (λ bytes. IsUpgraded bytes.items net.now) }
 {
     let draft = draft_by_names(alloc, net.parts())?;

@@ -13,12 +13,14 @@ use Rattle.net_parts.specs.declared.drafts.DraftConflict.{DraftConflict}
 use Rattle.net_parts.specs.declared.roads.Link.{Link}
 use Rattle.net_parts.specs.declared.roads.Turn.{Turn}
 
--- The lists have one place for each node, link or conflict. `phase_links` has for each node the links of each of its phases.
+-- The lists have one place for each node, link or conflict. `phase_links` has for each node the links that each of its phases serves, and
+-- `also_links` the further ones that are green in it.
 pub record Net : Type 0 where
   pub run : Run
   pub node_names : List (List ℕ)
   pub plans : List (List Phase)
   pub phase_links : List (List (List ℕ))
+  pub also_links : List (List (List ℕ))
   pub link_names : List (List ℕ)
   pub links : List Link
   pub turns : List (List Turn)
@@ -100,10 +102,14 @@ link_names d = map (λ l. l.name) d.links
 abbrev pub plan_of : DraftNode → List Phase
 plan_of n = map (λ p. p.phase) n.phases
 
+-- the further links of each phase of a node: none, since a draft names none
+abbrev pub also_of : DraftNode → List (List ℕ)
+also_of n = map (λ p. []) n.phases
+
 -- the draft with numbers for names, where each name that it uses is the name of a node or a link
 unfoldable pub numbered : Draft → Option Net
 numbered d = do
   phase_links ← each (phases_of (link_names d)) d.nodes
   roads ← roads_of (node_names d) (link_names d) phase_links d.links
   conflicts ← each (conflict_of (link_names d)) d.conflicts
-  Some (record { run = d.run; node_names = node_names d; plans = map plan_of d.nodes; phase_links = phase_links; link_names = link_names d; links = roads.0; turns = roads.1; conflicts = conflicts })
+  Some (record { run = d.run; node_names = node_names d; plans = map plan_of d.nodes; phase_links = phase_links; also_links = map also_of d.nodes; link_names = link_names d; links = roads.0; turns = roads.1; conflicts = conflicts })

@@ -1,12 +1,12 @@
 -- The parts of a network by number, and how many there are.
-use Rattle.std.specs.Prelude.{◌≡◌, ℕ, ◌<◌, ◌≤◌, List, [], IfSome, length, slice_index_or, All}
+use Rattle.std.specs.Prelude.{◌≡◌, ◌≢◌, ℕ, ◌<◌, ◌≤◌, ◌==◌, Bool, false, ◌||◌, List, [], Option, Some, None, IfSome, length, slice_index_or, All, AllPairs, Contains}
 use Rattle.net_parts.specs.Limits.{most_links, most_sat, most_travel}
 use Rattle.phase_plan.specs.declared.Phase.{Phase}
 use Rattle.phase_plan.specs.Phases.{IsPlan}
 use Rattle.net_parts.specs.declared.roads.Link.{Link}
 use Rattle.net_parts.specs.declared.roads.Turn.{Turn}
 use Rattle.net_parts.specs.Bounds.{IsName, IsRun}
-use Rattle.net_parts.specs.Numbers.{Net, AreDistinct, no_link, phase_of}
+use Rattle.net_parts.specs.Numbers.{Net, AreDistinct, has_link, no_link, phase_of}
 
 -- the link with this number
 abbrev pub link_at : Net → ℕ → Link
@@ -27,6 +27,27 @@ phases_at net n = slice_index_or net.phase_links n []
 -- the links of phase k of a node
 abbrev pub phase_links_at : Net → ℕ → ℕ → List ℕ
 phase_links_at net n k = slice_index_or (phases_at net n) k []
+
+-- the further links of each phase of a node, phase by phase
+abbrev pub also_at : Net → ℕ → List (List ℕ)
+also_at net n = slice_index_or net.also_links n []
+
+-- the further links that are green in phase k of a node, beside those that it serves
+abbrev pub also_links_at : Net → ℕ → ℕ → List ℕ
+also_links_at net n k = slice_index_or (also_at net n) k []
+
+-- Whether a link that ends there is green in phase k of that node: the phase is its home, or names it also. One that ends at no node never is.
+abbrev pub is_green_to : Net → ℕ → ℕ → Option ℕ → Bool
+is_green_to net l k None = false
+is_green_to net l k (Some n) = ((link_at net l).phase == k) || has_link l (also_links_at net n k)
+
+-- whether a link is green in phase k of the node where it ends: the greens of a link are its home and the phases that name it also
+abbrev pub is_green_in : Net → ℕ → ℕ → Bool
+is_green_in net l k = is_green_to net l k (link_at net l).to
+
+-- no phase names a further link, so that each link has at most one green, its home
+abbrev pub HasNoOverlaps : Net → Type 0
+HasNoOverlaps net = (n k : ℕ) → also_links_at net n k ≡ []
 
 -- the name of a node
 abbrev pub node_name_at : Net → ℕ → List ℕ
@@ -55,6 +76,14 @@ pub record ArePhaseLinks (links : ℕ) (numbers : List ℕ) : Type 0 where
   pub count : length numbers ≤ 16
   pub exist : All (λ l. l < links) numbers
 
+-- The further links of a phase of a node, beside the links that it serves: each ends at the node, and the phase names no link twice.
+pub record AreAlsoLinks (net : Net) (node : ℕ) (serves also : List ℕ) : Type 0 where
+  pub count : length also ≤ 16
+  pub exist : All (λ l. l < length net.link_names) also
+  pub ends : All (λ l. (link_at net l).to ≡ Some node) also
+  pub differ : AllPairs (λ a b. a ≢ b) also
+  pub further : (l : ℕ) → Contains serves l → Contains also l → ⊥
+
 -- The counts and bounds of a network: every list has its place for each node or link, and numbers are those of nodes and links.
 pub record IsOutline (net : Net) : Type 0 where
   pub run : IsRun net.run
@@ -69,6 +98,9 @@ pub record IsOutline (net : Net) : Type 0 where
   pub phases_count : length net.phase_links ≡ length net.node_names
   pub phase_counts : (n : ℕ) → n < length net.node_names → length (phases_at net n) ≡ length (plan_at net n)
   pub phase_links : All (λ phases. All (ArePhaseLinks (length net.link_names)) phases) net.phase_links
+  pub also_count : length net.also_links ≡ length net.node_names
+  pub also_counts : (n : ℕ) → n < length net.node_names → length (also_at net n) ≡ length (plan_at net n)
+  pub also_links : (n k : ℕ) → n < length net.node_names → k < length (plan_at net n) → AreAlsoLinks net n (phase_links_at net n k) (also_links_at net n k)
   pub road_count : length net.links ≡ length net.link_names
   pub links : All (IsLink (length net.node_names)) net.links
   pub phases : (l : ℕ) → l < length net.links → (link_at net l).phase ≡ phase_of net.phase_links l (link_at net l).to

@@ -64,7 +64,7 @@ pub enum NetFault {
     /// The link ends at a node and is not named exactly once over all phases, in a phase of that node,
     /// or ends at no node and is named.
     Phaseless(u32),
-    /// The links of a conflict are the same, do not end at one node or are in one phase.
+    /// The links of a conflict are the same, do not end at one node or have a green in common.
     Clash { a: u32, b: u32 },
 }
 

@@ -14,6 +14,7 @@ pub struct Parts {
     pub node_names: Names,
     pub plans: Vec<PhasePlan>,
     pub phase_links: Vec<Items<Items<u32>>>,
+    pub also_links: Vec<Items<Items<u32>>>,
     pub link_names: Names,
     pub links: Vec<Link>,
     pub turns: Vec<Items<Turn>>,

@@ -1,5 +1,5 @@
 -- The first fault of a network, from the tests of its joins.
-use Rattle.std.proofs.Common.{◌≡◌, ℕ, ◌<◌, length, Result, Ok, Err, IfErr, IsErrAnd, List, All, ap, subst, sym}
+use Rattle.std.proofs.Common.{◌≡◌, ℕ, ◌<◌, length, Result, Ok, Err, IfErr, IsErrAnd, List, All, refl, subst, sym}
 use Rattle.std.proofs.lemmas.Result.{err_from_is_err_and}
 use Rattle.foundation.specs.Firsts.{IsFirstWithout}
 use Rattle.foundation.proofs.ListLaws.{All-each}
@@ -82,15 +82,15 @@ module _ (net : Net) (lists : List (List ℕ)) (by_node : AreByNode To net.links
           fault-from net Phaseless (IsPhasedAt links phase_links) (length links) (λ k first. (have_ends, have_few, shares, rw (links_are, phases_are) at first)) fault h
 
       module _ (phases : ArePhased net.links net.phase_links) where
-        pub conflicts-fault : (links : List Link) (conflicts : List (ℕ × ℕ)) → links ≡ net.links → conflicts ≡ net.conflicts → (fault : NetFault) → TestsEach (clash_at conflicts) (IsConflictAt links conflicts) (length conflicts) (Err fault) → IsJoinFault net fault
-        conflicts-fault links conflicts links_are conflicts_are fault h =
-            fault-from net (clash_at conflicts) (IsConflictAt links conflicts) (length conflicts) (λ k first. (have_ends, have_few, shares, phases, record { place = k; there = ap (λ cs. conflict_at cs k) (sym conflicts_are); first = rw (links_are, conflicts_are) at first })) fault h
+        conflicts-fault : (fault : NetFault) → TestsEach (clash_at net.conflicts) (IsConflictAt net) (length net.conflicts) (Err fault) → IsJoinFault net fault
+        conflicts-fault fault h =
+            fault-from net (clash_at net.conflicts) (IsConflictAt net) (length net.conflicts) (λ k first. (have_ends, have_few, shares, phases, record { place = k; there = refl; first = first })) fault h
 
         -- a network that passes all of them
-        pub passed : ((k : ℕ) → k < length net.conflicts → IsConflictAt net.links net.conflicts k) → IsJoined net
-        passed conflicts = record { ends = have_ends; entries = have_few; shares = shares; phases = phases; conflicts = All-each (IsConflict net.links) net.conflicts (0, 0) conflicts }
+        pub passed : ((k : ℕ) → k < length net.conflicts → IsConflictAt net k) → IsJoined net
+        passed conflicts = record { ends = have_ends; entries = have_few; shares = shares; phases = phases; conflicts = All-each (IsConflict net) net.conflicts (0, 0) conflicts }
 
         -- the last of them
-        pub conflicts-last : (links : List Link) (conflicts : List (ℕ × ℕ)) → links ≡ net.links → conflicts ≡ net.conflicts → (result : Result (Unit {0}) NetFault) → TestsEach (clash_at conflicts) (IsConflictAt links conflicts) (length conflicts) result → Passes net result
-        conflicts-last links conflicts links_are conflicts_are (Ok _) h = passed (rw (links_are, conflicts_are) at h)
-        conflicts-last links conflicts links_are conflicts_are (Err fault) h = conflicts-fault links conflicts links_are conflicts_are fault h
+        pub conflicts-last : (result : Result (Unit {0}) NetFault) → TestsEach (clash_at net.conflicts) (IsConflictAt net) (length net.conflicts) result → Passes net result
+        conflicts-last (Ok _) h = passed h
+        conflicts-last (Err fault) h = conflicts-fault fault h

@@ -1,11 +1,12 @@
+pub mod Apart
 pub mod AtSide
 pub mod Ends
-pub mod FirstFaults
-pub mod Joining
-pub mod Served
-pub mod Apart
 pub mod Everywhere
+pub mod FirstFaults
+pub mod GreenLaws
+pub mod Joining
 pub mod PartsAtMost
+pub mod Served
 pub mod Serving
 pub mod Shares
 pub mod TotalLaws

@@ -60,10 +60,10 @@ module _ (p : ℕ → Bool) where
   count-in : (xs : List (List ℕ)) (k : ℕ) → k < length xs → 1 ≤ count_by p (get_or xs k []) → 1 ≤ in_lists xs
   count-in xs k h some = omega (arith, get_or-le-sum_by (λ ys. count_by p ys) xs k [] h)
 
-same_link : (a b : ℕ) → a ≡ b → (a == b) ≡ true
+pub same_link : (a b : ℕ) → a ≡ b → (a == b) ≡ true
 same_link a b same = elim (eqb_tells a b) [ inl e ↦ e.0 | inr q ↦ absurd (q.1 same) ]
 
-is_link : (a b : ℕ) → (a == b) ≡ true → a ≡ b
+pub is_link : (a b : ℕ) → (a == b) ≡ true → a ≡ b
 is_link a b is = elim (eqb_tells a b) [ inl e ↦ e.1 | inr q ↦ absurd (false≢true (sym q.0 ∙ is)) ]
 
 some_of : (o : Option ℕ) → IsSome o → (k : ℕ) × (o ≡ Some k)

@@ -14,7 +14,7 @@ use Rattle.road_net.specs.Joins.{HasEnds, HasEndsAt, HasFewEntries, HaveFewEntri
 pub record IsFirstClash (net : Net) (pair : ℕ × ℕ) : Type 0 where
   pub place : ℕ
   pub there : conflict_at net.conflicts place ≡ pair
-  pub first : IsFirstWithout (IsConflictAt net.links net.conflicts) (length net.conflicts) place
+  pub first : IsFirstWithout (IsConflictAt net) (length net.conflicts) place
 
 -- Why the parts of a network are not joined as they have to be: the first link without its ends; where all have them, the
 -- first node with more links than it may have; else the first link whose turns are not as they must; else the first that phases do not name as

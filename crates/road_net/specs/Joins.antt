@@ -1,5 +1,5 @@
 -- How the parts of a network are joined.
-use Rattle.std.specs.Prelude.{◌≡◌, ◌≢◌, ℕ, suc, ◌+◌, ◌-◌, ◌*◌, ◌/◌, ◌≤◌, ◌<◌, ◌==◌, Bool, false, if◌then◌else◌, List, [], ◌∷◌, Option, Some, None, IsSome, MatchOption, EachIndex, map, position, length, take, sum_by, count_by, slice_index_or, All, AllPairs, Contains}
+use Rattle.std.specs.Prelude.{◌≡◌, ◌≢◌, ℕ, suc, ◌+◌, ◌-◌, ◌*◌, ◌/◌, ◌≤◌, ◌<◌, ◌==◌, Bool, false, if◌then◌else◌, List, [], ◌∷◌, Option, Some, None, IsSome, IsTrue, MatchOption, EachIndex, map, position, length, take, sum_by, count_by, slice_index_or, All, AllPairs, Contains}
 use Rattle.std.specs.List.{concat}
 use Rattle.std.specs.List.Sorted.{IsStrictlyIncreasing}
 use Rattle.std.specs.Option.{option_map_or}
@@ -7,7 +7,8 @@ use Rattle.net_parts.specs.declared.roads.Link.{Link}
 use Rattle.net_parts.specs.declared.roads.Turn.{Turn}
 use Rattle.road_net.specs.declared.joins.Side.{Side}
 use Rattle.road_net.specs.declared.joins.Side.TheVariants.{From, To}
-use Rattle.net_parts.specs.Numbers.{no_link, has_link}
+use Rattle.net_parts.specs.Numbers.{Net, no_link, has_link}
+use Rattle.net_parts.specs.Outline.{is_green_in}
 
 -- the link with this number
 abbrev pub link_at : List Link → ℕ → Link
@@ -76,12 +77,16 @@ times_named phase_links link = count_by (λ l. l == link) (named_links phase_lin
 abbrev pub IsPhased : List (List (List ℕ)) → ℕ → Option ℕ → Type 0
 IsPhased phase_links link to = MatchOption to (times_named phase_links link ≡ 0) (λ node. (times_named phase_links link ≡ 1) × IsSome (position (has_link link) (slice_index_or phase_links node [])))
 
--- the links of a conflict end at one node, in two phases
-pub record IsConflict (links : List Link) (c : ℕ × ℕ) : Type 0 where
+-- two links have no green in common: there is no phase in which both are green
+abbrev pub AreNeverBoth : Net → ℕ → ℕ → Type 0
+AreNeverBoth net a b = (k : ℕ) → IsTrue (is_green_in net a k) → IsTrue (is_green_in net b k) → ⊥
+
+-- the links of a conflict end at one node, and have no green in common
+pub record IsConflict (net : Net) (c : ℕ × ℕ) : Type 0 where
   pub differ : c.0 ≢ c.1
-  pub ends : IsSome (link_at links c.0).to
-  pub node : (link_at links c.0).to ≡ (link_at links c.1).to
-  pub phases : (link_at links c.0).phase ≢ (link_at links c.1).phase
+  pub ends : IsSome (link_at net.links c.0).to
+  pub node : (link_at net.links c.0).to ≡ (link_at net.links c.1).to
+  pub apart : AreNeverBoth net c.0 c.1
 
 -- the conflict at this place
 abbrev pub conflict_at : List (ℕ × ℕ) → ℕ → ℕ × ℕ
@@ -100,8 +105,8 @@ abbrev pub IsPhasedAt : List Link → List (List (List ℕ)) → ℕ → Type 0
 IsPhasedAt links phase_links l = IsPhased phase_links l (link_at links l).to
 
 -- the pair at this place can be a conflict
-abbrev pub IsConflictAt : List Link → List (ℕ × ℕ) → ℕ → Type 0
-IsConflictAt links conflicts place = IsConflict links (conflict_at conflicts place)
+abbrev pub IsConflictAt : Net → ℕ → Type 0
+IsConflictAt net place = IsConflict net (conflict_at net.conflicts place)
 
 -- each link has turns as it must
 abbrev pub AreShared : List Link → List (List Turn) → Type 0

@@ -16,7 +16,7 @@ pub record IsJoined (net : Net) : Type 0 where
   pub entries : HaveFewEntries net.links (length net.node_names)
   pub shares : AreShared net.links net.turns
   pub phases : ArePhased net.links net.phase_links
-  pub conflicts : All (IsConflict net.links) net.conflicts
+  pub conflicts : All (IsConflict net) net.conflicts
 
 -- the network is that of the parts, where they are joined as they have to be
 abbrev pub Joins : Net → Result Net NetFault → Type 0

@@ -2,11 +2,14 @@
 ghost use Rattle.std.specs.Prelude.{◌≡◌, ◌≢◌, ◌≤◌, ◌<◌, ◌^◌, ◌↔◌, IsTrue, IfOk, OnOk, IfSome, ◌++◌, Some, [], All, AllPairs, length, slice_index_or, sum_by};
 ghost use Rattle.std.specs.List.{concat};
 ghost use Rattle.net_parts.specs.Limits.{most_links};
+ghost use Rattle.net_parts.specs.Outline.{IsOutline};
+ghost use Rattle.net_parts.specs.Parts.{net_of};
 ghost use Rattle.road_net.specs.Stored.{TestsEach, clash_at, HasFewAt};
 ghost use Rattle.road_net.specs.Joins.{HasEndsAt, link_at, node_at, is_node, links_of_node, AreByNode, HasShares, HasSharesAt, share_of, named_links, IsPhased, IsPhasedAt, IsConflict, IsConflictAt};
 
+use crate::greens::are_never_both;
 use foundation::items::Items;
-use net_parts::{Link, NetFault, Turn, phase_with};
+use net_parts::{Link, NetFault, Parts, Turn, phase_with};
 use std::alloc::{AllocError, Global};
 
 /// A side of a link.
@@ -214,14 +217,16 @@ fn push_links(named: &mut Vec<u32>, phases: &[Items<u32>]) -> Result<(), AllocEr
     Ok(())
 }
 
-/// Tests that the links of each conflict end at one node, in two phases. The first conflict whose links do not is
-/// named.
-pub(crate) fn check_conflicts(links: &[Link], conflicts: &[(u32, u32)]) -> Result<(), NetFault>
-    requires { All (λ c. (c.0 < length links.now) × (c.1 < length links.now)) conflicts.now }
-    ensures { TestsEach (clash_at conflicts.now) (IsConflictAt links.now conflicts.now) (length conflicts.now) result }
+/// Tests that the links of each conflict end at one node and have no green in common. The first conflict whose links do
+/// not is named.
+pub(crate) fn check_conflicts(parts: &Parts) -> Result<(), NetFault>
+    requires { IsOutline (net_of parts.now) }
+    ensures { TestsEach (clash_at parts.now.conflicts.items) (IsConflictAt (net_of parts.now))
+        (length parts.now.conflicts.items) result }
 {
+    let conflicts = parts.conflicts.as_slice();
     for (a, b) in conflicts {
-        if !can_conflict(links, *a, *b) {
+        if !can_conflict(parts, *a, *b) {
             return Err(NetFault::Clash { a: *a, b: *b });
         }
     }
@@ -229,12 +234,13 @@ pub(crate) fn check_conflicts(links: &[Link], conflicts: &[(u32, u32)]) -> Resul
 }
 
 /// Whether the two links may stand in a conflict.
-fn can_conflict(links: &[Link], a: u32, b: u32) -> bool
-    requires first { a < length links.now }
-    requires second { b < length links.now }
-    ensures { IsTrue result ↔ IsConflict links.now (a, b) }
+fn can_conflict(parts: &Parts, a: u32, b: u32) -> bool
+    requires outline { IsOutline (net_of parts.now) }
+    requires first { a < length parts.now.link_names }
+    requires second { b < length parts.now.link_names }
+    ensures { IsTrue result ↔ IsConflict (net_of parts.now) (a, b) }
 {
-    let first = &links[a as usize];
-    let second = &links[b as usize];
-    a != b && first.to.is_some() && first.to == second.to && first.phase != second.phase
+    let first = parts.links[a as usize].to;
+    let second = parts.links[b as usize].to;
+    a != b && first.is_some() && first == second && are_never_both(parts, a, b)
 }

@@ -9,6 +9,7 @@ ghost use Rattle.road_net.specs.Joins.{AreByNode, HasEndsAt};
 ghost use Rattle.road_net.specs.Network.{IsNetwork, Joins};
 ghost use Rattle.road_net.specs.Stored.{IsStored, Links, Passes};
 
+mod greens;
 mod joins;
 mod senses;
 mod splits;
@@ -57,7 +58,7 @@ impl Network {
     ghost use Rattle.net_parts.specs.Numbers.{number_of};
     ghost use Rattle.net_parts.specs.Parts.{net_of};
     ghost use Rattle.road_net.specs.Joins.{split_of, AreLinksAt, AreParts};
-    ghost use Rattle.net_parts.specs.Outline.{link_at, turns_at, plan_at, phases_at, phase_links_at, node_name_at, link_name_at};
+    ghost use Rattle.net_parts.specs.Outline.{link_at, turns_at, plan_at, phases_at, phase_links_at, also_links_at, is_green_in, node_name_at, link_name_at};
     ghost use Rattle.road_net.specs.Network.{IsNetwork, entry_links, exit_links, AreApart};
     ghost use Rattle.road_net.specs.Totals.{total};
 
@@ -115,6 +116,31 @@ impl Network {
     {
         let phases = self.parts.phase_links[node as usize].as_slice();
         phases[phase as usize].as_slice()
+    }
+
+    /// The further links that are green in a phase of a node, beside those that it serves, at most 16, in the order of the file.
+    ///
+    /// docs/RULES.md, "Links".
+    pub fn also_links(&self, node: u32, phase: u8) -> &[u32]
+        requires node { node < length self.now.node_names }
+        requires phase { phase < length (plan_at self.now node) }
+        ensures value { result.now ≡ also_links_at self.now node phase }
+        ensures network { IsNetwork self.now }
+    {
+        let phases = self.parts.also_links[node as usize].as_slice();
+        phases[phase as usize].as_slice()
+    }
+
+    /// Whether a link is green in a phase of the node where it ends: the phase is its home, or names it also. A link that ends at no
+    /// node is green in none.
+    ///
+    /// docs/RULES.md, "Links".
+    pub fn is_green(&self, l: u32, phase: u8) -> bool
+        requires { l < length self.now.link_names }
+        ensures value { result ≡ is_green_in self.now l phase }
+        ensures network { IsNetwork self.now }
+    {
+        greens::is_green(&self.parts, l, phase)
     }
 
     /// The links that end at a node, at most 16, in number order.
@@ -305,5 +331,5 @@ fn check_joins(alloc: Global, parts: &Parts, entry: &[Items<u32>]) -> Result<(),
     joins::check_entries(entry)?;
     joins::check_shares(links, parts.turns.as_slice())?;
     joins::check_phases(alloc, links, parts.phase_links.as_slice())?;
-    joins::check_conflicts(links, parts.conflicts.as_slice())
+    joins::check_conflicts(parts)
 }

@@ -15,7 +15,7 @@ use Rattle.net_parts.specs.declared.drafts.DraftTurn.{DraftTurn}
 use Rattle.net_parts.specs.declared.drafts.DraftConflict.{DraftConflict}
 use Rattle.net_parts.specs.declared.roads.Link.{Link}
 use Rattle.net_parts.specs.declared.roads.Turn.{Turn}
-use Rattle.net_parts.specs.Numbers.{Net, AreDistinct, number_of, number_if, phase_of, plan_of, phases_of, link_of, turn_of, turns_of, conflict_of, roads_of, node_names, link_names, numbered}
+use Rattle.net_parts.specs.Numbers.{Net, AreDistinct, number_of, number_if, phase_of, plan_of, also_of, phases_of, link_of, turn_of, turns_of, conflict_of, roads_of, node_names, link_names, numbered}
 use Rattle.net_parts.proofs.DraftParts.{number_of-own}
 
 -- whether the name stands at the place
@@ -111,7 +111,7 @@ numbered_by find_node find_link d = do
   phase_links ← each (phases_by find_link) d.nodes
   roads ← roads_by find_node find_link phase_links d.links
   conflicts ← each (conflict_by find_link) d.conflicts
-  Some (record { run = d.run; node_names = node_names d; plans = map plan_of d.nodes; phase_links = phase_links; link_names = link_names d; links = roads.0; turns = roads.1; conflicts = conflicts })
+  Some (record { run = d.run; node_names = node_names d; plans = map plan_of d.nodes; phase_links = phase_links; also_links = map also_of d.nodes; link_names = link_names d; links = roads.0; turns = roads.1; conflicts = conflicts })
 
 abbrev Finds : List (List ℕ) → (List ℕ → Option ℕ) → Type 0
 Finds names find = (name : List ℕ) (n : ℕ) → find name ≡ Some n → number_of names name ≡ Some n

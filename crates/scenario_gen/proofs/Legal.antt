@@ -16,6 +16,9 @@ use Rattle.net_parts.specs.declared.roads.Link.{Link}
 use Rattle.net_parts.specs.declared.roads.Turn.{Turn}
 use Rattle.net_parts.specs.Bounds.{IsNameByte, IsName, IsRun, IsBoundedPhase, IsBoundedNode, IsBoundedTurn, IsBoundedLink, IsBounded}
 use Rattle.net_parts.specs.Numbers.{Net, AreDistinct, has_link, node_names, link_names}
+use Rattle.net_parts.specs.Outline.{HasNoOverlaps}
+use Rattle.net_parts.proofs.DraftParts.{no-overlaps, numbered-parts}
+use Rattle.road_net.proofs.GreenLaws.{homes-apart}
 use Rattle.road_net.specs.Joins.{HasEnds, HasFewEntries, IsShareTable, HasShares, HasSharesAt, IsPhased, IsPhasedAt, IsConflict, is_node, link_at, share_of, times_named}
 use Rattle.road_net.specs.Network.{IsJoined, IsNetworkOf, entry_links}
 use Rattle.scenario_gen.proofs.Guesses.{are_own, numbered_guessed, numbered-guessed, own-distinct}
@@ -224,8 +227,9 @@ same-ends None (Some b) e = absurd (false≢true e)
 same-ends (Some a) None e = absurd (false≢true e)
 same-ends (Some a) (Some b) e = ap Some (eqb-true a b e)
 
-conflict-by : (links : List Link) (c : ℕ × ℕ) → is_conflict links c ≡ true → IsConflict links c
-conflict-by links c e =
+conflict-by : (net : Net) → HasNoOverlaps net → (c : ℕ × ℕ) → is_conflict net.links c ≡ true → IsConflict net c
+conflict-by net none c e =
+    let links : List Link = net.links in
     let differ = and_parts (not (c.0 == c.1)) _ e in
     let ends = and_parts (is_some (link_at links c.0).to) _ differ.1 in
     let node = and_parts (same_end (link_at links c.0).to (link_at links c.1).to) _ ends.1 in
@@ -233,7 +237,7 @@ conflict-by links c e =
       differ = eqb-false c.0 c.1 (not-true (c.0 == c.1) differ.0);
       ends = ends.0;
       node = same-ends (link_at links c.0).to (link_at links c.1).to node.0;
-      phases = eqb-false (link_at links c.0).phase (link_at links c.1).phase (not-true ((link_at links c.0).phase == (link_at links c.1).phase) node.1);
+      apart = homes-apart net none c.0 c.1 (eqb-false (link_at links c.0).phase (link_at links c.1).phase (not-true ((link_at links c.0).phase == (link_at links c.1).phase) node.1));
     }
 
 abbrev has_few_entries : Net → ℕ → Bool
@@ -253,8 +257,8 @@ is_joined net =
     && (all_below (is_phased_at net.links net.phase_links) (length net.links)
     && list_all (is_conflict net.links) net.conflicts)))
 
-joined-by : (net : Net) → is_joined net ≡ true → IsJoined net
-joined-by net e =
+joined-by : (net : Net) → HasNoOverlaps net → is_joined net ≡ true → IsJoined net
+joined-by net none e =
     let ends = and_parts (list_all (λ (l : Link). not (same_end l.from l.to)) net.links) _ e in
     let entries = and_parts (all_below (has_few_entries net) (length net.node_names)) _ ends.1 in
     let shares = and_parts (all_below (has_shares_at net.links net.turns) (length net.links)) _ entries.1 in
@@ -264,7 +268,7 @@ joined-by net e =
       entries = below-by (has_few_entries net) (HasFewEntries net.links) (λ n h. leb-true (length (entry_links net n)) 16 h) (length net.node_names) entries.0;
       shares = below-by (has_shares_at net.links net.turns) (HasSharesAt net.links net.turns) (λ l h. shares-by net.links (slice_index_or net.turns l []) (link_at net.links l).to h) (length net.links) shares.0;
       phases = below-by (is_phased_at net.links net.phase_links) (IsPhasedAt net.links net.phase_links) (λ l h. phased-by net.phase_links l (link_at net.links l).to h) (length net.links) phases.0;
-      conflicts = all-by (is_conflict net.links) (IsConflict net.links) (conflict-by net.links) net.conflicts phases.1;
+      conflicts = all-by (is_conflict net.links) (IsConflict net) (conflict-by net none) net.conflicts phases.1;
     }
 
 abbrev is_joined_if : Option Net → Bool
@@ -293,4 +297,4 @@ legal-by node link d run e =
     there (Some net) is joined bounds nodes links =
         let p = and_parts (is_joined net) (nat_le (length net.link_names) 320) joined in
         let numbers = numbered-guessed d node link nodes links net is in
-        record { net = net; network = record { bounds = bounds; node_names = nodes; link_names = links; numbers = numbers; joins = joined-by net p.0 }; few = leb-true (length net.link_names) 320 p.1 }
+        record { net = net; network = record { bounds = bounds; node_names = nodes; link_names = links; numbers = numbers; joins = joined-by net (no-overlaps d net (numbered-parts d net numbers)) p.0 }; few = leb-true (length net.link_names) 320 p.1 }

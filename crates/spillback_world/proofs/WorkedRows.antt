@@ -18,6 +18,7 @@ net = record {
   node_names = (97 ∷ []) ∷ (98 ∷ []) ∷ [];
   plans = (phase ∷ phase ∷ []) ∷ (phase ∷ phase ∷ []) ∷ [];
   phase_links = ((2 ∷ []) ∷ (0 ∷ []) ∷ []) ∷ ((1 ∷ []) ∷ (3 ∷ []) ∷ []) ∷ [];
+  also_links = ([] ∷ [] ∷ []) ∷ ([] ∷ [] ∷ []) ∷ [];
   link_names = (0 ∷ []) ∷ (1 ∷ []) ∷ (2 ∷ []) ∷ (3 ∷ []) ∷ (4 ∷ []) ∷ [];
   links = record { from = None; to = Some 0; travel = 10; sat = 500; weight = 1; phase = 1 } ∷ record { from = Some 0; to = Some 1; travel = 10; sat = 500; weight = 1; phase = 0 } ∷ record { from = Some 1; to = Some 0; travel = 10; sat = 500; weight = 1; phase = 0 }
       ∷ record { from = None; to = Some 1; travel = 10; sat = 500; weight = 1; phase = 1 } ∷ record { from = Some 1; to = None; travel = 10; sat = 500; weight = 1; phase = 0 } ∷ [];

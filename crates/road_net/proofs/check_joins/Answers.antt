@@ -39,4 +39,4 @@ pub returns : goal.returns
 returns c =
     let shares = (rw (c.as_slice-links.ensures.value, c.as_slice.ensures.value) at c.in_ok-check_shares.ensures) in
     let phases = (rw (c.as_slice-links.ensures.value, c.as_slice-2.ensures.value) at c.in_ok-check_phases.ensures) in
-    conflicts-last (net_of c.args.parts.now) c.args.entry.now c.requires.entry c.requires.ends c.in_ok-check_entries.ensures shares phases _ _ c.as_slice-links.ensures.value c.as_slice-3.ensures.value c.check_conflicts.result c.check_conflicts.ensures
+    conflicts-last (net_of c.args.parts.now) c.args.entry.now c.requires.entry c.requires.ends c.in_ok-check_entries.ensures shares phases c.check_conflicts.result c.check_conflicts.ensures

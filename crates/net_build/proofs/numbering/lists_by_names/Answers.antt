@@ -25,4 +25,4 @@ returns-in_err-conflicts c =
 
 pub returns : goal.returns
 returns c =
-    numbers-all _ _ _ _ c.requires.tables _ c.as_slice.ensures _ c.in_ok-links.ensures _ c.as_slice-2.ensures _ c.as_slice-3.ensures _ _ c.in_ok-conflicts.ensures c.in_ok-plans.ensures
+    numbers-all _ _ _ _ c.requires.tables _ c.as_slice.ensures _ c.in_ok-links.ensures _ c.as_slice-2.ensures _ c.as_slice-3.ensures _ _ _ c.in_ok-conflicts.ensures c.in_ok-plans.ensures (rw c.as_slice-3.ensures (rw c.as_slice-4.ensures at c.in_ok-also_links.ensures))

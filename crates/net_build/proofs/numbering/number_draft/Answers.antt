@@ -11,4 +11,4 @@ returns-in_err-phase_links c =
     record { ok = search rules; refused = both.0; first = both.1 }
 
 pub returns-clause-ok : goal.returns-clause-ok
-returns-clause-ok c = named-net c.args.draft.now _ _ c.in_ok-phase_links.ensures.names _ _ _ _ _ c.in_ok-phase_links.ensures.ok
+returns-clause-ok c = named-net c.args.draft.now _ _ c.in_ok-phase_links.ensures.names _ _ _ _ _ _ c.in_ok-phase_links.ensures.ok

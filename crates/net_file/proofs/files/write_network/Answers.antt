@@ -12,4 +12,4 @@ returns c =
     let draft = c.in_ok-draft.draft in
     let same = subst (λ (net : Net). draft ≡ draft_by_names net) c.parts.ensures.value c.in_ok-draft.ensures in
     IfOk-weaker c.draft_text.result (λ bytes. IsTextOfDraft bytes.items draft) (λ bytes. IsUpgraded bytes.items c.args.net.now)
-    (λ bytes text. upgraded bytes.items draft c.args.net.now c.parts.ensures.network same text) c.draft_text.ensures
+    (λ bytes text. upgraded bytes.items draft c.args.net.now c.parts.ensures.network c.requires same text) c.draft_text.ensures
