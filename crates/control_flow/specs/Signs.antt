@@ -1,5 +1,5 @@
 -- What a signal shows at a second, by the rows of its timeline.
-use Rattle.std.specs.Prelude.{ℕ, nat_lt, if◌then◌else◌, List, [], ◌∷◌, Option, Some, None}
+use Rattle.std.specs.Prelude.{ℕ, nat_lt, ◌&&◌, Bool, false, if◌then◌else◌, List, [], ◌∷◌, Option, Some, None}
 use Rattle.control_flow.specs.declared.greens.Green.{Green}
 use Rattle.control_flow.specs.declared.greens.Sign.{Sign}
 use Rattle.control_flow.specs.declared.greens.Sign.TheVariants as signs
@@ -29,3 +29,10 @@ abbrev pub on_of : Sign → Option (ℕ × ℕ)
 on_of (signs.On phase since) = Some (phase, since)
 on_of (signs.Change from to) = None
 on_of signs.Dark = None
+
+-- whether what is green in some phases, `green k` where it is in phase k, is green under a sign: where one of these is on, and in a
+-- change between two of them
+abbrev pub is_on : (ℕ → Bool) → Sign → Bool
+is_on green (signs.On phase since) = green phase
+is_on green (signs.Change from to) = green from && green to
+is_on green signs.Dark = false

@@ -1,88 +1,132 @@
 -- What lawful lines give: the network is safe.
-use Rattle.std.proofs.Common.{◌≡◌, ℕ, ◌+◌, ◌<◌, ◌≤◌, List, [], Option, Some, None, length, get_or, refl, sym, ap, subst, ◌∙◌, inl, inr, arith}
-use Rattle.std.specs.Prelude.{Contains, IfSome, IsSome, IsTrue, MatchOption, unwrap_or}
-use Rattle.std.proofs.lemmas.Bool.{cases_lt}
-use Rattle.std.proofs.lemmas.List.{get_or_default}
+use Rattle.std.proofs.Common.{◌≡◌, ℕ, ◌+◌, ◌<◌, ◌≤◌, Bool, true, false, ◌&&◌, List, [], ◌∷◌, Option, Some, None, length, get_or, refl, sym, ap, subst, ◌∙◌, inl, inr, arith}
+use Rattle.std.specs.Prelude.{IfSome, IsSome, IsTrue}
+use Rattle.std.specs.Option.{option_map_or}
+use Rattle.std.proofs.lemmas.Bool.{cases_lt, and_parts, false≢true}
 use Rattle.std.proofs.lemmas.List.Elements.{All-get_or}
-use Rattle.control_flow.specs.Greens.{AreApart, IsGreen, IsLawful, covers, no_green, row_at}
+use Rattle.control_flow.specs.Greens.{IsLawful}
+use Rattle.control_flow.specs.Signs.{change_from, is_on, sign_after, sign_at}
 use Rattle.control_flow.specs.declared.greens.Green.{Green}
-use Rattle.control_flow.proofs.ApartLaws.{are-apart}
+use Rattle.control_flow.specs.declared.greens.Sign.{Sign}
+use Rattle.control_flow.specs.declared.greens.Sign.TheVariants as signs
+use Rattle.control_flow.proofs.RowLaws.{lawful-first, lawful-next, lawful-tail}
+use Rattle.control_flow.proofs.SignLaws.{after-row, before-row, within-row}
 use Rattle.net_parts.specs.Numbers.{Net, no_link}
-use Rattle.net_parts.specs.Outline.{IsLink, link_at, plan_at}
+use Rattle.net_parts.specs.Outline.{IsLink, is_green_in, link_at, plan_at}
 use Rattle.phase_plan.specs.Phases.{IsPlan, phase_at}
 use Rattle.phase_plan.specs.declared.Phase.{Phase}
-use Rattle.phase_plan.proofs.RingLaws.{phase-bounds}
-use Rattle.road_net.specs.Joins.{IsConflict}
+use Rattle.road_net.specs.Joins.{AreNeverBoth, IsConflict}
 use Rattle.road_net.specs.Network.{IsNetwork}
-use Rattle.signal_safety.specs.Safe.{AreSafe, BeginsAfter, IsGreenOf, IsSafe, times_of}
+use Rattle.signal_safety.specs.Safe.{AreSafe, BeginsAfter, IsSafe, clearance_after, clearance_at, is_green_at}
 
 pub plan-is : (net : Net) → IsNetwork net → (node : ℕ) → node < length net.node_names → IsPlan (plan_at net node)
 plan-is net network node below = All-get_or IsPlan net.plans node [] (let e = network.outline.plan_count in omega arith) network.outline.plans
 
--- rows of one line with two phases
-module _ (plan : List Phase) (rows : List Green) (p : IsPlan plan) (lawful : IsLawful plan rows) (a b : Green) (ca : Contains rows a) (cb : Contains rows b) (differ : a.phase ≡ b.phase → ⊥) where
-  apart : AreApart plan rows
-  apart = are-apart plan rows p lawful
+-- a link is green in the phases of `mine`, another one in those of `others`, and no phase is in both
+module _ (mine others : ℕ → Bool) (apart : (k : ℕ) → mine k ≡ true → others k ≡ true → ⊥) where
+  pub never-both : (s : Sign) → is_on mine s ≡ true → is_on others s ≡ true → ⊥
+  never-both (signs.On k since) a b = apart k a b
+  never-both (signs.Change k j) a b = apart k (and_parts (mine k) (mine j) a).0 (and_parts (others k) (others j) b).0
+  never-both signs.Dark a b = false≢true a
 
-  at-a : row_at rows ca.0 ≡ a
-  at-a = get_or_default rows ca.0 no_green a ca.1 ∙ ca.2
-
-  at-b : row_at rows cb.0 ≡ b
-  at-b = get_or_default rows cb.0 no_green b cb.1 ∙ cb.2
-
-  other-places : ca.0 ≡ cb.0 → ⊥
-  other-places e = differ (ap (λ (g : Green). g.phase) (sym at-a ∙ ap (row_at rows) e ∙ at-b))
-
-  pub never-both : (second : ℕ) → IsTrue (covers a second) → IsTrue (covers b second) → ⊥
-  never-both second one other = other-places (apart.one ca.0 cb.0 second ca.1 cb.1 (subst (λ (g : Green). IsTrue (covers g second)) (sym at-a) one) (subst (λ (g : Green). IsTrue (covers g second)) (sym at-b) other))
-
-  pub begins-behind : a.from ≤ b.from → a.to + (phase_at plan a.phase).yellow + (phase_at plan a.phase).clear ≤ b.from
-  begins-behind order = elim (cases_lt ca.0 cb.0) [
-    | inl before ↦
-        let z : (row_at rows ca.0).to + (phase_at plan (row_at rows ca.0).phase).yellow + (phase_at plan (row_at rows ca.0).phase).clear ≤ (row_at rows cb.0).from = apart.apart ca.0 cb.0 before cb.1 in
-        omega (arith, z, ap (λ (g : Green). g.to + (phase_at plan g.phase).yellow + (phase_at plan g.phase).clear) at-a, ap (λ (g : Green). g.from) at-b)
-    | inr past ↦ elim (cases_lt cb.0 ca.0) [
-      | inr same ↦ absurd (other-places (omega arith))
-      | inl behind ↦ absurd (
-          let z : (row_at rows cb.0).to + (phase_at plan (row_at rows cb.0).phase).yellow + (phase_at plan (row_at rows cb.0).phase).clear ≤ (row_at rows ca.0).from = apart.apart cb.0 ca.0 behind ca.1 in
-          let green : IsGreen plan (row_at rows cb.0) = All-get_or (IsGreen plan) rows cb.0 no_green cb.1 lawful.greens in
-          let times = phase-bounds plan (row_at rows cb.0).phase p green.phase in
-          omega (arith, z, green.least, times.least, ap (λ (g : Green). g.from) at-a, ap (λ (g : Green). g.from) at-b))
+  module _ (plan : List Phase) where
+    -- from the begin of a row on, a link that is not green in its phase is green only after it, its yellow and all-red
+    after-green : (before : Option ℕ) (r : Green) (rs : List Green) (y : ℕ) → IsLawful plan (r ∷ rs) → (others r.phase ≡ true → ⊥) → r.from ≤ y → is_on others (sign_after before (r ∷ rs) y) ≡ true
+        → r.to + (phase_at plan r.phase).yellow + (phase_at plan r.phase).clear ≤ y
+    after-green before r [] y lawful never begun on = elim (cases_lt y r.to) [
+      | inl h ↦ absurd (never (sym (ap (is_on others) (within-row before r [] y begun h)) ∙ on))
+      | inr h ↦ absurd (false≢true (sym (ap (is_on others) (after-row before r [] y begun h)) ∙ on))
     ]
-  ]
+    after-green before r (n ∷ ns) y lawful never begun on = elim (cases_lt y r.to) [
+      | inl h ↦ absurd (never (sym (ap (is_on others) (within-row before r (n ∷ ns) y begun h)) ∙ on))
+      | inr h ↦
+          let later : is_on others (sign_after (Some r.phase) (n ∷ ns) y) ≡ true = sym (ap (is_on others) (after-row before r (n ∷ ns) y begun h)) ∙ on in
+          elim (cases_lt y n.from) [
+            | inl change ↦ absurd (never (and_parts (others r.phase) (others n.phase) (sym (ap (is_on others) (before-row (Some r.phase) n ns y change)) ∙ later)).0)
+            | inr next ↦ omega (arith, (lawful-next plan r n ns lawful).begins, next)
+          ]
+    ]
+
+    -- in a change to a row
+    after-change : (before : Option ℕ) (r : Green) (rs : List Green) (x y : ℕ) → IsLawful plan (r ∷ rs) → x < y → x < r.from → is_on mine (change_from before r.phase) ≡ true
+        → is_on others (sign_after before (r ∷ rs) y) ≡ true → x + 1 + clearance_after plan (change_from before r.phase) ≤ y
+    after-change None r rs x y lawful less early one other = absurd (false≢true one)
+    after-change (Some k) r rs x y lawful less early one other =
+        let both = and_parts (mine k) (mine r.phase) one in
+        elim (cases_lt y r.from) [
+          | inl same ↦ absurd (apart k both.0 (and_parts (others k) (others r.phase) (sym (ap (is_on others) (before-row (Some k) r rs y same)) ∙ other)).0)
+          | inr begun ↦
+              let after = after-green (Some k) r rs y lawful (λ e. apart r.phase both.1 e) begun other in
+              omega (arith, after, early, (lawful-first plan r rs lawful).least)
+        ]
+
+    -- a second in which the one is green, and a later one in which the other is
+    pub begins-after : (before : Option ℕ) (rows : List Green) (x y : ℕ) → IsLawful plan rows → x < y → is_on mine (sign_after before rows x) ≡ true → is_on others (sign_after before rows y) ≡ true
+        → x + 1 + clearance_after plan (sign_after before rows x) ≤ y
+    begins-after before [] x y lawful less one other = absurd (false≢true one)
+    begins-after before (r ∷ rs) x y lawful less one other = elim (cases_lt x r.from) [
+      | inl early ↦
+          let e = before-row before r rs x early in
+          subst (λ (s : Sign). x + 1 + clearance_after plan s ≤ y) (sym e) (after-change before r rs x y lawful less early (sym (ap (is_on mine) e) ∙ one) other)
+      | inr begun ↦ elim (cases_lt x r.to) [
+        | inl within ↦
+            let e = within-row before r rs x begun within in
+            let here : mine r.phase ≡ true = sym (ap (is_on mine) e) ∙ one in
+            let after = after-green before r rs y lawful (λ o. apart r.phase here o) (omega (arith, begun, less)) other in
+            subst (λ (s : Sign). x + 1 + clearance_after plan s ≤ y) (sym e) (omega (arith, after, within))
+        | inr past ↦
+            let e = after-row before r rs x begun past in
+            let f = after-row before r rs y (omega (arith, begun, less)) (omega (arith, past, less)) in
+            let later = begins-after (Some r.phase) rs x y (lawful-tail plan r rs lawful) less (sym (ap (is_on mine) e) ∙ one) (sym (ap (is_on others) f) ∙ other) in
+            subst (λ (s : Sign). x + 1 + clearance_after plan s ≤ y) (sym e) later
+      ]
+    ]
+
+module _ (net : Net) (lines : ℕ → List Green) where
+  -- what a link that ends at a node shows, by the node
+  pub green-at : (link node second : ℕ) → (link_at net link).to ≡ Some node → is_green_at net lines link second ≡ is_on (is_green_in net link) (sign_at (lines node) second)
+  green-at link node second to = ap (λ (o : Option ℕ). option_map_or (λ n. is_on (is_green_in net link) (sign_at (lines n) second)) o false) to
+
+  pub clearance-at : (link node second : ℕ) → (link_at net link).to ≡ Some node → clearance_at net lines link second ≡ clearance_after (plan_at net node) (sign_at (lines node) second)
+  clearance-at link node second to = ap (λ (o : Option ℕ). option_map_or (λ n. clearance_after (plan_at net n) (sign_at (lines n) second)) o 0) to
+
+  module _ (a b node : ℕ) (lawful : IsLawful (plan_at net node) (lines node)) (first : (link_at net a).to ≡ Some node) (second : (link_at net b).to ≡ Some node) (apart : AreNeverBoth net a b) where
+    safe-never : (x : ℕ) → IsTrue (is_green_at net lines a x) → IsTrue (is_green_at net lines b x) → ⊥
+    safe-never x one other = never-both (is_green_in net a) (is_green_in net b) apart (sign_at (lines node) x) (sym (green-at a node x first) ∙ one) (sym (green-at b node x second) ∙ other)
+
+    safe-after : BeginsAfter net lines a b
+    safe-after x y less one other =
+        let z = begins-after (is_green_in net a) (is_green_in net b) apart (plan_at net node) None (lines node) x y lawful less (sym (green-at a node x first) ∙ one) (sym (green-at b node y second) ∙ other) in
+        subst (λ (t : ℕ). x + 1 + t ≤ y) (sym (clearance-at a node x first)) z
+
+-- the node of a conflict
+pub record IsConflictOf (net : Net) (node : ℕ) (c : ℕ × ℕ) : Type 0 where
+  pub below : node < length net.node_names
+  pub first : (link_at net c.0).to ≡ Some node
+  pub second : (link_at net c.1).to ≡ Some node
+
+pub conflict-node : (net : Net) → IsNetwork net → (c : ℕ × ℕ) → c.0 < length net.link_names → IsConflict net c → (node : ℕ) × IsConflictOf net node c
+conflict-node net network c inside is = by (link_at net c.0).to refl is.ends
+  where
+    by : (o : Option ℕ) → (link_at net c.0).to ≡ o → IsSome o → (node : ℕ) × IsConflictOf net node c
+    by None e none = absurd (false≢true none)
+    by (Some node) e some =
+        let link : IsLink (length net.node_names) (link_at net c.0) = All-get_or (IsLink (length net.node_names)) net.links c.0 no_link (let f = network.outline.road_count in omega arith) network.outline.links in
+        (node, record { below = subst (λ (o : Option ℕ). IfSome o (λ n. n < length net.node_names)) e link.to; first = e; second = sym is.node ∙ e })
 
 module _ (net : Net) (network : IsNetwork net) (lines : ℕ → List Green) (lawful : (node : ℕ) → node < length net.node_names → IsLawful (plan_at net node) (lines node)) where
-  -- the green of a link that ends at a node is one of the node's line
-  of-node : (link node : ℕ) (row : Green) → (link_at net link).to ≡ Some node → IsGreenOf net lines link row → Contains (lines node) row
-  of-node link node row to green = subst (λ (o : Option ℕ). MatchOption o ⊥ (λ n. Contains (lines n) row)) to green.ends
+  safe-pair : (c : ℕ × ℕ) → c.0 < length net.link_names → IsConflict net c → AreSafe net lines c
+  safe-pair c inside is =
+      let (node, at) = conflict-node net network c inside is in
+      let line = lawful node at.below in
+      record {
+        never = safe-never net lines c.0 c.1 node line at.first at.second is.apart;
+        first = safe-after net lines c.0 c.1 node line at.first at.second is.apart;
+        second = safe-after net lines c.1 c.0 node line at.second at.first (λ k other one. is.apart k one other);
+      }
 
-  module _ (a b node : ℕ) (below : node < length net.node_names) (first : (link_at net a).to ≡ Some node) (second : (link_at net b).to ≡ Some node) (phases : (link_at net a).phase ≡ (link_at net b).phase → ⊥) where
-    differ : (x y : Green) → IsGreenOf net lines a x → IsGreenOf net lines b y → x.phase ≡ y.phase → ⊥
-    differ x y one other same = phases (sym one.phase ∙ same ∙ other.phase)
-
-    pub safe-never : (x y : Green) (time : ℕ) → IsGreenOf net lines a x → IsGreenOf net lines b y → IsTrue (covers x time) → IsTrue (covers y time) → ⊥
-    safe-never x y time one other p q = never-both (plan_at net node) (lines node) (plan-is net network node below) (lawful node below) x y (of-node a node x first one) (of-node b node y second other) (differ x y one other) time p q
-
-    pub safe-behind : BeginsAfter net lines a b
-    safe-behind x y one other order =
-        let z = begins-behind (plan_at net node) (lines node) (plan-is net network node below) (lawful node below) x y (of-node a node x first one) (of-node b node y second other) (differ x y one other) order in
-        let t : times_of net a ≡ phase_at (plan_at net node) x.phase = ap (λ (o : Option ℕ). phase_at (plan_at net (unwrap_or o 0)) (link_at net a).phase) first ∙ ap (phase_at (plan_at net node)) (sym one.phase) in
-        subst (λ (p : Phase). x.to + p.yellow + p.clear ≤ y.from) (sym t) z
-
-  safe-pair : (c : ℕ × ℕ) → (c.0 < length net.link_names) → IsConflict net.links c → AreSafe net lines c
-  safe-pair c inside is = by (link_at net c.0).to refl is.ends
-    where
-      by : (o : Option ℕ) → (link_at net c.0).to ≡ o → IsSome o → AreSafe net lines c
-      by None e none = absurd (cc)
-      by (Some node) e some =
-          let other : (link_at net c.1).to ≡ Some node = sym is.node ∙ e in
-          let link : IsLink (length net.node_names) (link_at net c.0) = All-get_or (IsLink (length net.node_names)) net.links c.0 no_link (let f = network.outline.road_count in omega arith) network.outline.links in
-          let below : node < length net.node_names = subst (λ (o : Option ℕ). IfSome o (λ n. n < length net.node_names)) e link.to in
-          record {
-            never = λ x y second one two p q. safe-never c.0 c.1 node below e other is.phases x y second one two p q;
-            first = safe-behind c.0 c.1 node below e other is.phases;
-            second = safe-behind c.1 c.0 node below other e (λ same. is.phases (sym same));
-          }
+  pub conflict-inside : (i : ℕ) (d : ℕ × ℕ) → i < length net.conflicts → (get_or net.conflicts i d).0 < length net.link_names
+  conflict-inside i d inside = (All-get_or (λ (c : ℕ × ℕ). (c.0 < length net.link_names) × (c.1 < length net.link_names)) net.conflicts i d inside network.outline.conflicts).0
 
   pub safe : IsSafe net lines
-  safe i d inside = safe-pair (get_or net.conflicts i d) (All-get_or (λ (c : ℕ × ℕ). (c.0 < length net.link_names) × (c.1 < length net.link_names)) net.conflicts i d inside network.outline.conflicts).0 (All-get_or (IsConflict net.links) net.conflicts i d inside network.joins.conflicts)
+  safe i d inside = safe-pair (get_or net.conflicts i d) (conflict-inside i d inside) (All-get_or (IsConflict net) net.conflicts i d inside network.joins.conflicts)

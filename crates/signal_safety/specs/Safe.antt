@@ -1,31 +1,39 @@
--- When the signals of a network are safe.
-use Rattle.std.specs.Prelude.{◌≡◌, ℕ, ◌+◌, ◌≤◌, IsTrue, List, All, Contains, MatchOption, unwrap_or}
-use Rattle.control_flow.specs.Greens.{covers}
+-- When the signals of a network are safe, by what they show second by second.
+use Rattle.std.specs.Prelude.{◌≡◌, ℕ, ◌+◌, ◌<◌, ◌≤◌, Bool, false, IsTrue, List, All, Contains, MatchOption, unwrap_or}
+use Rattle.std.specs.Option.{option_map_or}
+use Rattle.control_flow.specs.Signs.{is_on, sign_at}
 use Rattle.control_flow.specs.declared.greens.Green.{Green}
+use Rattle.control_flow.specs.declared.greens.Sign.{Sign}
+use Rattle.control_flow.specs.declared.greens.Sign.TheVariants as signs
 use Rattle.net_parts.specs.Numbers.{Net}
-use Rattle.net_parts.specs.Outline.{link_at, plan_at}
+use Rattle.net_parts.specs.Outline.{is_green_in, link_at, plan_at}
 use Rattle.phase_plan.specs.Phases.{phase_at}
 use Rattle.phase_plan.specs.declared.Phase.{Phase}
 
--- a green of a link: a row of its phase in the line of the node at its end, where `lines node` is the line of a node
-pub record IsGreenOf (net : Net) (lines : ℕ → List Green) (link : ℕ) (row : Green) : Type 0 where
-  pub ends : MatchOption (link_at net link).to ⊥ (λ node. Contains (lines node) row)
-  pub phase : row.phase ≡ (link_at net link).phase
+-- whether a link is green in a second, by the sign that the node at its end shows then; `lines node` is the timeline of a node
+abbrev pub is_green_at : Net → (ℕ → List Green) → ℕ → ℕ → Bool
+is_green_at net lines link second = option_map_or (λ node. is_on (is_green_in net link) (sign_at (lines node) second)) (link_at net link).to false
 
--- the times of a link's phase
-abbrev pub times_of : Net → ℕ → Phase
-times_of net link = phase_at (plan_at net (unwrap_or (link_at net link).to 0)) (link_at net link).phase
+-- the yellow and all-red that follow the greens of a sign: those of the phase that is on, or to which a change leads; 0 where nothing is shown
+abbrev pub clearance_after : List Phase → Sign → ℕ
+clearance_after plan (signs.On phase since) = (phase_at plan phase).yellow + (phase_at plan phase).clear
+clearance_after plan (signs.Change from to) = (phase_at plan to).yellow + (phase_at plan to).clear
+clearance_after plan signs.Dark = 0
 
--- Where a green of link `b` begins no earlier than one of link `a`, it begins after the end of that one and after the yellow and
--- the all-red that follow it; `lines node` is the timeline of a node.
+-- the same of a second in which a link is green, by the node at its end
+abbrev pub clearance_at : Net → (ℕ → List Green) → ℕ → ℕ → ℕ
+clearance_at net lines link second = option_map_or (λ node. clearance_after (plan_at net node) (sign_at (lines node) second)) (link_at net link).to 0
+
+-- Where link `a` is green in a second and link `b` in a later one, the yellow and all-red that follow the sign of the first second
+-- lie between the two; `lines node` is the timeline of a node.
 abbrev pub BeginsAfter : Net → (ℕ → List Green) → ℕ → ℕ → Type 0
-BeginsAfter net lines a b = (early late : Green) → IsGreenOf net lines a early → IsGreenOf net lines b late → early.from ≤ late.from
-    → early.to + (times_of net a).yellow + (times_of net a).clear ≤ late.from
+BeginsAfter net lines a b = (early late : ℕ) → early < late → IsTrue (is_green_at net lines a early) → IsTrue (is_green_at net lines b late)
+    → early + 1 + clearance_at net lines a early ≤ late
 
--- Two links are safe from each other: in no second are both green, and each begins a green only after yellow and all-red of every
--- earlier green of the other.
+-- Two links are safe from each other: in no second are both green, and each is green only after yellow and all-red of every earlier
+-- second in which the other was.
 pub record AreSafe (net : Net) (lines : ℕ → List Green) (pair : ℕ × ℕ) : Type 0 where
-  pub never : (one other : Green) (second : ℕ) → IsGreenOf net lines pair.0 one → IsGreenOf net lines pair.1 other → IsTrue (covers one second) → IsTrue (covers other second) → ⊥
+  pub never : (second : ℕ) → IsTrue (is_green_at net lines pair.0 second) → IsTrue (is_green_at net lines pair.1 second) → ⊥
   pub first : BeginsAfter net lines pair.0 pair.1
   pub second : BeginsAfter net lines pair.1 pair.0
 
