@@ -1,5 +1,5 @@
 -- When the signals of a network are safe, by what they show second by second.
-use Rattle.std.specs.Prelude.{◌≡◌, ℕ, ◌+◌, ◌<◌, ◌≤◌, Bool, false, IsTrue, List, All, Contains, MatchOption, unwrap_or}
+use Rattle.std.specs.Prelude.{ℕ, ◌+◌, ◌<◌, ◌≤◌, Bool, false, IsTrue, List, All}
 use Rattle.std.specs.Option.{option_map_or}
 use Rattle.control_flow.specs.Signs.{is_on, sign_at}
 use Rattle.control_flow.specs.declared.greens.Green.{Green}
