@@ -1,0 +1,10 @@
+pub mod BoundLaws
+pub mod Calls
+pub mod Emptying
+pub mod Intergreens
+pub mod Ring
+pub mod Rounds
+pub mod Shown
+pub mod Soon
+pub mod Turns
+pub mod Waiting

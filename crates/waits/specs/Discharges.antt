@@ -1,0 +1,78 @@
+-- For how long a queue may wait until something leaves it.
+use Rattle.std.specs.Prelude.{◌≡◌, ℕ, ◌+◌, ◌-◌, ◌*◌, ◌<◌, ◌≤◌, nat_lt, min, not, if◌then◌else◌, IsTrue, List, Some, length}
+use Rattle.std.specs.Prelude.{Result, Ok, Err}
+use Rattle.net_parts.specs.Numbers.{Net}
+use Rattle.net_parts.specs.Outline.{link_at, plan_at}
+use Rattle.phase_plan.specs.Phases.{is_unmarked_at, phase_at}
+use Rattle.phase_plan.specs.declared.Phase.{Phase}
+use Rattle.control_flow.specs.Greens.{IsLawful, end_of, row_at}
+use Rattle.control_flow.specs.declared.greens.Green.{Green}
+use Rattle.net_simulator.specs.Flow.{Cumulative, queue}
+use Rattle.waits.specs.Waits.{AreIntergreensWithin, longest_intergreen, longest_red}
+use Rattle.waits.specs.declared.bounds.NoBound.{NoBound}
+use Rattle.waits.specs.declared.bounds.NoBound.TheVariants.{Marked, ShortGreen}
+
+-- something leaves a link after the first n seconds and in the first m
+abbrev pub Discharges : (ℕ → ℕ → Cumulative) → ℕ → ℕ → ℕ → Type 0
+Discharges past l n m = (past n l).left < (past m l).left
+
+-- the longest time that a queue of phase k waits until something leaves it: the longest red, the start-up of the green, and the
+-- second in which it leaves
+abbrev pub longest_wait : List Phase → (ℕ → ℕ) → ℕ → ℕ
+longest_wait plan intergreen k = longest_red plan intergreen k + (phase_at plan k).loss + 1
+
+-- Within how many seconds each queue of phase k loses something, where the intergreens are within these. There is no such bound
+-- where the phase is marked, so that the ring may leave it out, or where its least green is no longer than its start-up.
+abbrev pub wait_bound : List Phase → (ℕ → ℕ) → ℕ → Result ℕ NoBound
+wait_bound plan intergreen k =
+    if not (is_unmarked_at plan k) then Err Marked
+    else if nat_lt (phase_at plan k).loss (phase_at plan k).least then Ok (longest_wait plan intergreen k)
+    else Err ShortGreen
+
+-- the longest intergreens of the nodes where no signal waits in all-red beyond `look` seconds from the end of a green
+abbrev pub intergreens_of : Net → ℕ → ℕ → ℕ → ℕ
+intergreens_of net look node = longest_intergreen (plan_at net node) look
+
+-- within how many seconds each queue of phase k of a node loses something, where the intergreens of the nodes are within these
+abbrev pub wait_bounds : Net → (ℕ → ℕ → ℕ) → ℕ → ℕ → Result ℕ NoBound
+wait_bounds net intergreens node k = wait_bound (plan_at net node) (intergreens node) k
+
+-- No queue waits for ever: in the first `end` seconds each queue loses something within the bound of its phase, `bound node k` for
+-- phase k of a node, where it has one.
+abbrev pub AreWaitsWithin : Net → (ℕ → ℕ → Result ℕ NoBound) → (ℕ → ℕ → Cumulative) → ℕ → Type 0
+AreWaitsWithin net bound past end =
+    (l node wait n : ℕ) → l < length net.link_names → (link_at net l).to ≡ Some node
+    → bound node (link_at net l).phase ≡ Ok wait → n + wait ≤ end → 0 < queue net past n l → Discharges past l n (n + wait)
+
+-- what a green of phase k of the least length lets leave after its start-up, from a link of this rate
+abbrev pub least_discharge : List Phase → ℕ → ℕ → ℕ
+least_discharge plan k sat = ((phase_at plan k).least - (phase_at plan k).loss) * sat
+
+-- in how many seconds from any second on a whole green of phase k begins and ends: those left of a green, the longest red, and
+-- a green
+abbrev pub whole_green_within : List Phase → (ℕ → ℕ) → ℕ → ℕ
+whole_green_within plan intergreen k = (phase_at plan k).greatest + longest_red plan intergreen k + (phase_at plan k).greatest
+
+-- In the first `end` seconds each queue of an unmarked phase leaves green by green: after so many times of a whole green it has
+-- lost as many least discharges, or all of it has left.
+abbrev pub AreEmptied : Net → (ℕ → ℕ → ℕ) → (ℕ → ℕ → Cumulative) → ℕ → Type 0
+AreEmptied net intergreens past end =
+    (l node n greens : ℕ) → l < length net.link_names → (link_at net l).to ≡ Some node
+    → let plan = plan_at net node in
+    let k = (link_at net l).phase in
+    let later = n + greens * whole_green_within plan (intergreens node) k in
+    IsTrue (is_unmarked_at plan k) → later ≤ end
+    → (past n l).left + min (queue net past n l) (greens * least_discharge plan k (link_at net l).sat) ≤ (past later l).left
+
+-- a lawful line with intergreens within these that shows the first `end` seconds: its first row begins with second 0, and its last
+-- one ends after them
+pub record IsWholeLine (plan : List Phase) (intergreen : ℕ → ℕ) (end : ℕ) (rows : List Green) : Type 0 where
+  pub lawful : IsLawful plan rows
+  pub intergreens : AreIntergreensWithin intergreen rows
+  pub begins : (row_at rows 0).from ≡ 0
+  pub ends : end < end_of rows
+
+-- each node of a network has a lawful line with intergreens within these that shows the first `end` seconds
+abbrev pub AreWholeLines : Net → (ℕ → ℕ → ℕ) → ℕ → (ℕ → List Green) → Type 0
+AreWholeLines net intergreens end lines =
+    (node : ℕ) → node < length net.node_names → IsWholeLine (plan_at net node) (intergreens node) end (lines node)

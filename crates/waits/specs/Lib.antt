@@ -1,0 +1,5 @@
+pub mod Waits
+pub mod Discharges
+pub mod Rounds
+pub use Rattle.control_flow.specs.Greens
+pub use Rattle.control_flow.specs.Timelines

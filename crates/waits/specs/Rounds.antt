@@ -1,0 +1,34 @@
+-- A signal's timeline round by round.
+use Rattle.std.specs.Prelude.{◌≡◌, ℕ, suc, ◌<◌, Bool, not, ◌&&◌, List, Some, length, map}
+use Rattle.std.specs.List.{range_with_len}
+use Rattle.phase_plan.specs.Phases.{phase_at}
+use Rattle.phase_plan.specs.declared.Phase.{Phase}
+use Rattle.switch_rules.specs.declared.Head.{Head}
+use Rattle.control_flow.specs.Greens.{GoesOn, IsLawful, head_at, spliced}
+use Rattle.control_flow.specs.declared.greens.Green.{Green}
+use Rattle.waits.specs.Waits.{AreIntergreensWithin}
+
+-- a round that begins in second `now` continues a line from its head by lawful rows with intergreens within these
+pub record IsRound (plan : List Phase) (intergreen : ℕ → ℕ) (now : ℕ) (old new : List Green) : Type 0 where
+  pub head : Head
+  pub next : List Green
+  pub at : head_at plan old now ≡ Some head
+  pub goes : GoesOn head next
+  pub lawful : IsLawful plan next
+  pub intergreens : AreIntergreensWithin intergreen next
+  pub line : new ≡ spliced old next
+
+-- `line r` is the line before round r, which begins in second `begins r`: the first is lawful with intergreens within these, and each
+-- of so many rounds continues it by such rows
+pub record AreRounds (plan : List Phase) (intergreen : ℕ → ℕ) (rounds : ℕ) (begins : ℕ → ℕ) (line : ℕ → List Green) : Type 0 where
+  pub lawful : IsLawful plan (line 0)
+  pub intergreens : AreIntergreensWithin intergreen (line 0)
+  pub each : (r : ℕ) → r < rounds → IsRound plan intergreen (begins r) (line r) (line (suc r))
+
+-- phase k without its mark where it is called
+abbrev pub called_phase : List Phase → (ℕ → Bool) → ℕ → Phase
+called_phase plan calls k = record (phase_at plan k) { skip = (phase_at plan k).skip && not (calls k) }
+
+-- the plan in which the phases that are called have no mark
+abbrev pub without_marks : List Phase → (ℕ → Bool) → List Phase
+without_marks plan calls = map (called_phase plan calls) (range_with_len 0 (length plan))

@@ -1,0 +1,98 @@
+//! What lawful timelines promise of greens and queues, where the intergreens are within bounds.
+ghost use Rattle.std.specs.Prelude.{◌≡◌, ℕ, ◌+◌, ◌<◌, ◌≤◌, All, Bool, IsTrue, List, Some, length};
+ghost use Rattle.control_flow.specs.Greens.{GoesOn, IsLawful, end_of, head_at, row_at, spliced};
+ghost use Rattle.control_flow.specs.Timelines.{AreServings, line_of, turned};
+ghost use Rattle.control_flow.specs.declared.greens.Green.{Green};
+ghost use Rattle.net_parts.specs.Numbers.{Net};
+ghost use Rattle.net_simulator.specs.Flow.{past_of};
+ghost use Rattle.net_simulator.specs.Worlds.{standing_by};
+ghost use Rattle.phase_plan.specs.Phases.{IsPlan, is_unmarked_at};
+ghost use Rattle.phase_plan.specs.declared.Phase.{Phase};
+ghost use Rattle.road_net.specs.Network.{IsNetwork};
+ghost use Rattle.switch_rules.specs.Sequences.{AreNextServings};
+ghost use Rattle.switch_rules.specs.Serving.{IsHead};
+ghost use Rattle.switch_rules.specs.declared.Cluster.{Cluster};
+ghost use Rattle.switch_rules.specs.declared.Head.{Head};
+ghost use Rattle.switch_rules.specs.declared.Served.{Served};
+ghost use Rattle.waits.specs.Discharges.{AreEmptied, AreWaitsWithin, AreWholeLines, wait_bounds};
+ghost use Rattle.waits.specs.Rounds.{AreRounds, without_marks};
+ghost use Rattle.waits.specs.Waits.{AreIntergreensWithin, BeginSoon, IsGreenBy, IsGreenWithin};
+ghost use Rattle.waits.specs.Waits.{longest_intergreen, longest_red};
+
+/// Each unmarked phase of a lawful timeline, whose intergreens are within given bounds, is green within a turn of the ring in
+/// which every other phase has its greatest green.
+///
+/// docs/RULES.md, "How long a queue can wait".
+pub fn law_of_turns()
+    ensures { (plan : List Phase) → IsPlan plan → (intergreen : ℕ → ℕ) (rows : List Green) → IsLawful plan rows
+        → AreIntergreensWithin intergreen rows → (k : ℕ) → k < length plan → IsTrue (is_unmarked_at plan k)
+        → IsGreenWithin rows k (longest_red plan intergreen k) }
+{}
+
+/// The intergreens of the timelines that controllers make: of a turning ring, yellow and all-red alone; of servings whose new greens
+/// begin by a second that is no more than `look` after the head, or as early as they can, no more than `look` or yellow and
+/// all-red; and a splice keeps them.
+///
+/// docs/RULES.md, "How long a queue can wait".
+pub fn law_of_intergreens()
+    ensures turns { (plan : List Phase) (stops : ℕ → Bool) (head : Head) (to until look : ℕ)
+        → AreIntergreensWithin (longest_intergreen plan look) (turned plan stops head to until) }
+    ensures serves { (plan : List Phase) → IsPlan plan → (head : Head) → IsHead plan head → head.at ≤ 104000
+        → (ks : List ℕ) (ss : List Served) → AreServings plan head ks ss
+        → (by look until : ℕ) → by ≤ head.at + look → BeginSoon plan by head ks ss
+        → AreIntergreensWithin (longest_intergreen plan look) (line_of plan head ks ss until) }
+    ensures splices { (plan : List Phase) → IsPlan plan → (intergreen : ℕ → ℕ) (old next : List Green) (now : ℕ)
+        → (head : Head) → IsLawful plan old → head_at plan old now ≡ Some head → GoesOn head next
+        → AreIntergreensWithin intergreen old → AreIntergreensWithin intergreen next
+        → AreIntergreensWithin intergreen (spliced old next) }
+{}
+
+/// New greens of a sequence begin by the last arrival of its clusters, or as early as they can.
+///
+/// docs/RULES.md, "Serving".
+pub fn law_of_servings()
+    ensures { (plan : List Phase) (lists : List (List Cluster)) (by : ℕ) → All (All (λ c. c.arr ≤ by)) lists
+        → (ks left : List ℕ) (head : Head) (ss : List Served) → AreNextServings plan lists left head ks ss
+        → BeginSoon plan by head ks ss }
+{}
+
+/// Rounds that continue a line by lawful rows with intergreens within bounds leave such a line; and what is lawful where fewer
+/// phases are marked is lawful.
+///
+/// docs/RULES.md, "How long a queue can wait".
+pub fn law_of_rounds()
+    ensures rounds { (plan : List Phase) → IsPlan plan → (intergreen : ℕ → ℕ) (rounds : ℕ) (begins : ℕ → ℕ)
+        → (line : ℕ → List Green) → AreRounds plan intergreen rounds begins line
+        → (r : ℕ) → r ≤ rounds → IsLawful plan (line r) × AreIntergreensWithin intergreen (line r) }
+    ensures marks { (plan : List Phase) (calls : ℕ → Bool) (rows : List Green) → IsLawful (without_marks plan calls) rows
+        → IsLawful plan rows }
+{}
+
+/// Where from a round on a phase is called, so that what each round splices in is lawful without its mark, the phase is green
+/// within its longest red of the head's green of that round, and of each later second.
+///
+/// docs/RULES.md, "How long a queue can wait".
+pub fn law_of_calls()
+    ensures { (plan : List Phase) (calls : ℕ → Bool) → IsPlan plan → (intergreen : ℕ → ℕ) (rounds : ℕ) (begins : ℕ → ℕ)
+        → (line : ℕ → List Green) → (are : AreRounds plan intergreen rounds begins line)
+        → ((r s : ℕ) → r ≤ s → begins r ≤ begins s) → (first : ℕ) (less : first < rounds)
+        → ((r : ℕ) (inside : r < rounds) → first ≤ r → IsLawful (without_marks plan calls) (are.each r inside).next)
+        → (k : ℕ) → k < length (without_marks plan calls) → IsTrue (is_unmarked_at (without_marks plan calls) k)
+        → (second : ℕ) → (row_at (are.each first less).next 0).from ≤ second
+        → second + longest_red (without_marks plan calls) intergreen k < end_of (line rounds)
+        → IsGreenBy (line rounds) k second (second + longest_red (without_marks plan calls) intergreen k) }
+{}
+
+/// Under lawful timelines with intergreens within bounds, one for each node, whoever made them, no queue waits for ever: each queue
+/// of an unmarked phase whose least green is longer than its start-up loses something within the longest wait, and what stands at
+/// a second leaves green by green.
+///
+/// docs/RULES.md, "How long a queue can wait".
+pub fn law_of_waits()
+    ensures waits { (net : Net) → IsNetwork net → (arriving : ℕ → ℕ → ℕ) (lines : ℕ → List Green)
+        → (intergreens : ℕ → ℕ → ℕ) (end : ℕ) → AreWholeLines net intergreens end lines
+        → AreWaitsWithin net (wait_bounds net intergreens) (past_of net arriving (standing_by lines) end) end }
+    ensures empties { (net : Net) → IsNetwork net → (arriving : ℕ → ℕ → ℕ) (lines : ℕ → List Green)
+        → (intergreens : ℕ → ℕ → ℕ) (end : ℕ) → AreWholeLines net intergreens end lines
+        → AreEmptied net intergreens (past_of net arriving (standing_by lines) end) end }
+{}
