@@ -1,0 +1,106 @@
+-- In each length of a cycle each row has its green.
+use Rattle.std.proofs.Common.{◌≡◌, ℕ, zero, suc, ◌+◌, ◌-◌, ◌*◌, ◌/◌, ◌%◌, ◌<◌, ◌≤◌, Bool, true, cond, eqb, leb, ltb, ◌&&◌, ◌==◌, List, [], ◌∷◌, length, take, All, Option, Some, None, filter_map, sum_by, refl, ap, subst, ◌∙◌, inl, inr, arith, eq-eqb, div-add-mod', suc-mul}
+use Rattle.std.specs.List.{cons_option, list_any, range_with_len}
+use Rattle.std.specs.Option.{option_map}
+use Rattle.std.proofs.lemmas.Bool.{and_from, cases_lt, le-leb, lt-ltb, ne_eqb, or_left, or_right}
+use Rattle.std.proofs.lemmas.List.Elements.{All-from_get_or, All-get_or, All-head, All-tail}
+use Rattle.std.proofs.lemmas.List.Sums.{sum_by-cons, sum_by_more_le}
+use Rattle.std.proofs.lemmas.Nat.{mod-mul-add, mod_below}
+use Rattle.std.proofs.lemmas.List.{get_or_default}
+use Rattle.std.specs.Prelude.{Contains}
+use Rattle.net_parts.specs.Numbers.{Net}
+use Rattle.net_parts.specs.Outline.{plan_at}
+use Rattle.net_simulator.specs.Sums.{end_of_run}
+use Rattle.phase_plan.specs.Phases.{IsPlan, no_phase}
+use Rattle.road_net.specs.Network.{IsNetwork}
+use Rattle.signal_safety.proofs.Lines.{plan-is}
+use Rattle.fixed_plans.specs.Rows.{IsFixedPlan}
+use Rattle.fixed_plans.proofs.LineLaws.{own-cycle}
+use Rattle.phase_plan.specs.declared.Phase.{Phase}
+use Rattle.control_flow.specs.Greens.{covers}
+use Rattle.control_flow.specs.declared.greens.Green.{Green}
+use Rattle.fixed_plans.specs.Cycles.{IsCycle}
+use Rattle.fixed_plans.specs.Lines.{beginning, cycle_length, cycle_line, cycle_second, fixed_line, green_from, green_of, offset_of, rows_of, span}
+use Rattle.fixed_plans.specs.declared.rows.FixedRow.{FixedRow}
+use Rattle.fixed_plans.proofs.CycleLaws.{IsShown, cycle-shown, no_row, row_in}
+use Rattle.waits.specs.Waits.{IsGreenBy}
+
+-- what a list by seconds has
+module _ (f : ℕ → Option Green) (test : Green → Bool) where
+  any-cons : (o : Option Green) (rows : List Green) → list_any test rows ≡ true → list_any test (cons_option o rows) ≡ true
+  any-cons None rows e = e
+  any-cons (Some g) rows e = or_right (test g) (list_any test rows) e
+
+  any-of : (n a y : ℕ) (g : Green) → a ≤ y → y < a + n → f y ≡ Some g → test g ≡ true → list_any test (filter_map f (range_with_len a n)) ≡ true
+  any-of zero a y g low high is passes = absurd (omega (arith, low, high))
+  any-of (suc n) a y g low high is passes = elim (cases_lt a y) [
+    | inl later ↦ any-cons (f a) (filter_map f (range_with_len (a + 1) n)) (any-of n (a + 1) y g (omega (arith, later)) (omega (arith, high)) is passes)
+    | inr now ↦
+        let e : a ≡ y = omega (arith, low, now) in
+        ap (λ (o : Option Green). list_any test (cons_option o (filter_map f (range_with_len (a + 1) n)))) (ap f e ∙ is) ∙ or_left (test g) (list_any test (filter_map f (range_with_len (a + 1) n))) passes
+  ]
+
+module _ (plan : List Phase) (cycle : List FixedRow) (p : IsPlan plan) (is : IsCycle plan cycle) where
+  abbrev HasSpan : FixedRow → Type 0
+  HasSpan r = 0 < span plan r
+
+  begin-here : (at : ℕ) (rows : List FixedRow) (i s : ℕ) → All HasSpan rows → i < length rows → s ≡ at + sum_by (span plan) (take i rows) → beginning plan at rows s ≡ Some (row_in rows i)
+  begin-here at [] i s long below is = absurd (omega (arith, below))
+  begin-here at (r ∷ rows) zero s long below is = ap (λ b. cond b (Some r) (beginning plan (at + span plan r) rows s)) (eq-eqb s at (omega (arith, is)))
+  begin-here at (r ∷ rows) (suc i) s long below is =
+      let first = All-head HasSpan r rows long in
+      let sums = sum_by-cons (span plan) r (take i rows) in
+      ap (λ b. cond b (Some r) (beginning plan (at + span plan r) rows s)) (ne_eqb s at (λ e. omega (arith, is, e, first, sums)))
+      ∙ begin-here (at + span plan r) rows i s (All-tail HasSpan r rows long) (omega (arith, below)) (omega (arith, is, sums))
+
+  green-some : (i : ℕ) → i < length cycle → 0 < (row_in cycle i).green
+  green-some i below =
+      let row : IsShown plan (row_in cycle i) = All-get_or (IsShown plan) cycle i no_row below (cycle-shown plan 0 cycle is.from) in
+      omega (arith, row.green.least, (p.phases (row_in cycle i).phase no_phase row.exists).least.0)
+
+  long : All HasSpan cycle
+  long = All-from_get_or HasSpan cycle no_row (λ i below. omega (arith, green-some i below))
+
+  abbrev lasts : ℕ
+  lasts = cycle_length plan cycle
+
+  -- the green of a row that begins at a second
+  shows : (i end second y : ℕ) → i < length cycle → second ≤ y → y ≤ second + lasts → y < end + lasts → cycle_second lasts (offset_of cycle) y ≡ sum_by (span plan) (take i cycle)
+      → IsGreenBy (cycle_line plan cycle end) (row_in cycle i).phase second (second + lasts)
+  shows i end second y below low high inside at =
+      let row = row_in cycle i in
+      let k = row.phase in
+      let begins : green_from plan cycle y ≡ Some (green_of y row) = ap (λ (n : ℕ). option_map (green_of y) (beginning plan 0 cycle n)) at ∙ ap (option_map (green_of y)) (begin-here 0 cycle i (sum_by (span plan) (take i cycle)) long below (omega arith)) in
+      let covered : ((eqb k k) && covers (green_of y row) y) ≡ true = and_from (eqb k k) (covers (green_of y row) y) (eq-eqb k k refl) (and_from (leb y y) (ltb y (y + row.green)) (le-leb y y (omega arith)) (lt-ltb y (y + row.green) (omega (arith, green-some i below)))) in
+      record { second = y; after = low; before = high; green = any-of (green_from plan cycle) (λ (g : Green). (g.phase == k) && covers g y) (end + lasts) 0 y (green_of y row) (omega arith) (omega (arith, inside)) begins covered }
+
+  -- some whole lengths and a place in the cycle
+  second-of : (y turns s : ℕ) → y + (lasts - offset_of cycle % lasts) ≡ turns * lasts + s → s < lasts → cycle_second lasts (offset_of cycle) y ≡ s
+  second-of y turns s at below = ap (λ (n : ℕ). n % lasts) at ∙ mod-mul-add turns lasts s below
+
+  pub comes : (i end second : ℕ) → i < length cycle → second ≤ end → IsGreenBy (cycle_line plan cycle end) (row_in cycle i).phase second (second + lasts)
+  comes i end second below early =
+      let s = sum_by (span plan) (take i cycle) in
+      let within : s < lasts = omega (arith, sum_by_more_le (span plan) cycle i no_row below, All-get_or HasSpan cycle i no_row below long) in
+      let whole : 0 < lasts = omega (arith, within) in
+      let at = second + (lasts - offset_of cycle % lasts) in
+      let c = at % lasts in
+      let turns = at / lasts in
+      let parts = div-add-mod' at lasts in
+      let less : c < lasts = mod_below at lasts whole in
+      elim (cases_lt s c) [
+        | inl past ↦
+            let y = second + (lasts + s - c) in
+            shows i end second y below (omega arith) (omega (arith, past)) (omega (arith, early, past, less, within)) (second-of y (suc turns) s (omega (arith, parts, past, less, suc-mul turns lasts)) within)
+        | inr ahead ↦
+            let y = second + (s - c) in
+            shows i end second y below (omega arith) (omega (arith, within)) (omega (arith, early, within)) (second-of y turns s (omega (arith, parts, ahead)) within)
+      ]
+
+-- for the rows of a node
+pub cycles-come : (net : Net) → IsNetwork net → (rows : List FixedRow) → IsFixedPlan net rows → (node : ℕ) → node < length net.node_names → (row : FixedRow) → Contains (rows_of rows node) row → (second : ℕ) → second ≤ end_of_run net
+    → IsGreenBy (fixed_line net rows node) row.phase second (second + cycle_length (plan_at net node) (rows_of rows node))
+cycles-come net network rows is node below row has second early =
+    let at : row_in (rows_of rows node) has.0 ≡ row = get_or_default (rows_of rows node) has.0 no_row row has.1 ∙ has.2 in
+    subst (λ (r : FixedRow). IsGreenBy (fixed_line net rows node) r.phase second (second + cycle_length (plan_at net node) (rows_of rows node))) at
+    (comes (plan_at net node) (rows_of rows node) (plan-is net network node below) (own-cycle net network rows node below is) has.0 (end_of_run net) second has.1 early)

@@ -1,0 +1,4 @@
+pub mod Acting
+pub mod Cycles
+pub mod Planning
+pub mod Splices

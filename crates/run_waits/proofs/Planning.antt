@@ -1,0 +1,178 @@
+-- Each round of a run continues its nodes' lines within intergreens.
+use Rattle.std.proofs.Common.{◌≡◌, ℕ, zero, suc, ◌+◌, ◌*◌, ◌<◌, ◌≤◌, List, All, length, refl, sym, ap, subst, ◌∙◌, arith, suc-mul}
+use Rattle.std.proofs.lemmas.List.{length-map}
+use Rattle.std.proofs.lemmas.Nat.{div_below, mul-le}
+use Rattle.board_model.specs.declared.boards.Heard.{Heard}
+use Rattle.clusters.specs.Sound.{ArePlannable, cluster_lists, clusters_of}
+use Rattle.control_flow.specs.Greens.{IsLawful, end_of, row_at}
+use Rattle.control_flow.specs.Timelines.{AreServings}
+use Rattle.control_flow.specs.declared.greens.Green.{Green}
+use Rattle.control_flow.proofs.SequenceLaws.{next-servings}
+use Rattle.control_flow.proofs.SpliceLaws.{continued, row-of-head}
+use Rattle.control_flow.proofs.MakingLaws.{line_of-line, rotation_of-line}
+use Rattle.intersection_actor.specs.Commits.{Commitment, IsCommit, line_for, phases_of}
+use Rattle.intersection_actor.specs.Rounds.{first_head}
+use Rattle.intersection_actor.proofs.ArrivalLaws.{window-soon}
+use Rattle.intersection_actor.proofs.ServedLaws.{greens-by, schedule-made}
+use Rattle.net_parts.specs.Numbers.{Net}
+use Rattle.net_simulator.specs.Flow.{Cumulative, past_of}
+use Rattle.net_simulator.specs.Sums.{end_of_run}
+use Rattle.net_simulator.specs.Worlds.{standing_by}
+use Rattle.net_simulator.proofs.AtNodes.{past-at-nodes}
+use Rattle.net_parts.specs.Outline.{plan_at}
+use Rattle.phase_plan.specs.Phases.{IsPlan, is_unmarked_at}
+use Rattle.phase_plan.specs.declared.Phase.{Phase}
+use Rattle.road_net.specs.Network.{IsNetwork}
+use Rattle.road_net.specs.declared.senses.Sensed.{Sensed}
+use Rattle.schedule_meaning.specs.Instances.{IsInstance, Problem, counts_of}
+use Rattle.schedule_meaning.specs.declared.planners.Answer.{Answer}
+use Rattle.schedule_meaning.specs.declared.planners.Answer.TheVariants.{Plan, NoPlan}
+use Rattle.signal_safety.proofs.Lines.{plan-is}
+use Rattle.signal_safety.proofs.Rounds.{IsLine, IsNext, IsSoonHead, head-of, line-next, rotation-next, shows}
+use Rattle.switch_rules.specs.Sequences.{AreNextServings}
+use Rattle.switch_rules.specs.Serving.{IsHead}
+use Rattle.switch_rules.specs.declared.Head.{Head}
+use Rattle.switch_rules.specs.declared.Served.{Served}
+use Rattle.runs.specs.Runs.{AllCommit, arriving_by, line_before, past_by, sensed_in, shown_by}
+use Rattle.runs.proofs.Plannable.{plannable, window-count}
+use Rattle.runs.proofs.Keep.{all-keep}
+use Rattle.waits.specs.Discharges.{AreEmptied, AreWaitsWithin, AreWholeLines, intergreens_of, wait_bounds}
+use Rattle.waits.proofs.BoundLaws.{empties, waits-within}
+use Rattle.waits.specs.Rounds.{AreRounds, IsRound}
+use Rattle.waits.specs.Waits.{BeginSoon, AreIntergreensWithin, longest_intergreen}
+use Rattle.run_waits.proofs.Splices.{splice-begins}
+use Rattle.waits.proofs.Intergreens.{line-intergreens, turned-intergreens}
+use Rattle.waits.proofs.Rounds.{kept}
+use Rattle.waits.proofs.Soon.{next-soon}
+
+next-line : (plan : List Phase) (head : Head) (answer : Answer) (served : List Served) (until : ℕ) → IsPlan plan → IsSoonHead plan head → until + 20 ≤ 100000
+    → AreServings plan head (phases_of answer) served → All (λ (s : Served). s.green ≤ 100000) served → IsNext plan head (line_for plan head answer served until)
+next-line plan head (Plan sequence delay) served until p h soon are greens = line-next plan head until p h soon sequence served are greens
+next-line plan head NoPlan served until p h soon are greens = rotation-next plan head until p h soon
+
+next-intergreens : (plan : List Phase) (head : Head) (answer : Answer) (served : List Served) (by look until : ℕ) → IsPlan plan → IsHead plan head → head.at ≤ 104000
+    → AreServings plan head (phases_of answer) served → by ≤ head.at + look → BeginSoon plan by head (phases_of answer) served → AreIntergreensWithin (longest_intergreen plan look) (line_for plan head answer served until)
+next-intergreens plan head (Plan sequence delay) served by look until p h reach are near soon = line-intergreens plan look p sequence served head by until h reach are near soon
+next-intergreens plan head NoPlan served by look until p h reach are near soon = turned-intergreens plan look (is_unmarked_at plan) head _ until
+
+next-ends : (plan : List Phase) (head : Head) (answer : Answer) (served : List Served) (until : ℕ) → IsPlan plan → IsHead plan head → head.at ≤ 104000 → AreServings plan head (phases_of answer) served → until < end_of (line_for plan head answer served until)
+next-ends plan head (Plan sequence delay) served until p h reach are = (line_of-line plan sequence served head until p h reach are).end
+next-ends plan head NoPlan served until p h reach are = (rotation_of-line plan head until p h reach).end
+
+module _ (net : Net) (network : IsNetwork net) (node : ℕ) (below : node < length net.node_names) where
+  plan : IsPlan (plan_at net node)
+  plan = plan-is net network node below
+
+  module _ (round : ℕ) (old : List Green) (sensed : Sensed) (heard : List Heard) (c : Commitment) (early : sensed.now ≤ 18000) (line : IsLine (plan_at net node) old) (is : IsCommit net node round old sensed heard c) where
+    look : net.run.look ≤ 180
+    look = network.outline.run.look.1
+
+    soon-head : IsSoonHead (plan_at net node) c.head
+    soon-head = head-of (plan_at net node) old sensed.now c.head line (omega (arith, early)) is.problem.at
+
+    ready : ArePlannable (cluster_lists c.window.lists)
+    ready = plannable c.platoons c.window is.problem.taken net network node below c.head sensed early heard is.problem.expected
+
+    each : length (cluster_lists c.window.lists) ≡ length (plan_at net node)
+    each = length-map c.window.lists clusters_of ∙ window-count c.platoons c.window is.problem.taken net network node below c.head sensed early heard is.problem.expected
+
+    instance_is : IsInstance (record { plan = plan_at net node; head = c.head; lists = cluster_lists c.window.lists })
+    instance_is = record { plan = plan; head = soon-head.is; since = soon-head.since; lists = each; clusters = ready.clusters; spaced = ready.spaced; few = ready.few; orders = ready.orders }
+
+    served-next : AreNextServings (plan_at net node) (cluster_lists c.window.lists) (counts_of (cluster_lists c.window.lists)) c.head (phases_of c.answer) c.served
+    served-next = subst (λ (p : Problem). AreNextServings p.plan p.lists (counts_of p.lists) p.head (phases_of c.answer) c.served) is.problem.is
+        (schedule-made c.problem c.answer (phases_of c.answer) c.served (subst IsInstance (sym is.problem.is) instance_is) is.answer refl is.served).next
+
+    servings : AreServings (plan_at net node) c.head (phases_of c.answer) c.served
+    servings = next-servings (plan_at net node) (cluster_lists c.window.lists) plan each ready.clusters (phases_of c.answer) (counts_of (cluster_lists c.window.lists)) c.head c.served served-next
+
+    next : IsNext (plan_at net node) c.head c.next
+    next =
+        let greens = greens-by (plan_at net node) (cluster_lists c.window.lists) plan each ready.clusters (sensed.now + net.run.look) (window-soon net node c.head sensed heard c.platoons c.window is.problem.expected is.problem.taken)
+        (phases_of c.answer) (counts_of (cluster_lists c.window.lists)) c.head c.served soon-head.is (omega (arith, look, early)) served-next in
+        subst (IsNext (plan_at net node) c.head) (sym is.next) (next-line (plan_at net node) c.head c.answer c.served (sensed.now + net.run.look) plan soon-head (omega (arith, look, early)) servings greens)
+
+    -- new greens begin within the look ahead, or as early as they can
+    intergreens : AreIntergreensWithin (longest_intergreen (plan_at net node) net.run.look) c.next
+    intergreens =
+        let soon = next-soon (plan_at net node) (cluster_lists c.window.lists) (sensed.now + net.run.look) (window-soon net node c.head sensed heard c.platoons c.window is.problem.expected is.problem.taken)
+        (phases_of c.answer) (counts_of (cluster_lists c.window.lists)) c.head c.served served-next in
+        let later = (row-of-head (plan_at net node) old sensed.now c.head is.problem.at).later in
+        subst (AreIntergreensWithin (longest_intergreen (plan_at net node) net.run.look)) (sym is.next)
+        (next-intergreens (plan_at net node) c.head c.answer c.served (sensed.now + net.run.look) net.run.look (sensed.now + net.run.look) plan soon-head.is (omega (arith, soon-head.reach)) servings (omega (arith, later)) soon)
+
+    pub ends-late : sensed.now + net.run.look < end_of c.line
+    ends-late =
+        let after : sensed.now + net.run.look < end_of c.next = subst (λ (rows : List Green). sensed.now + net.run.look < end_of rows) (sym is.next)
+        (next-ends (plan_at net node) c.head c.answer c.served (sensed.now + net.run.look) plan soon-head.is (omega (arith, soon-head.reach)) servings) in
+        let continues = continued (plan_at net node) old sensed.now c.head c.next plan line.lawful is.problem.at next.line.lawful next.goes in
+        omega (arith, after, continues.end, ap end_of is.line)
+
+    pub goes-on : IsRound (plan_at net node) (longest_intergreen (plan_at net node) net.run.look) sensed.now old c.line
+    goes-on = record { head = c.head; next = c.next; at = is.problem.at; goes = next.goes; lawful = next.line.lawful; intergreens = intergreens; line = is.line }
+
+-- the rounds of a run
+module _ (net : Net) (network : IsNetwork net) (enters : ℕ → ℕ → ℕ) (heard : ℕ → ℕ → List Heard) (made : ℕ → ℕ → Commitment) (commits : AllCommit net enters heard made net.run.rounds) (node : ℕ) (below : node < length net.node_names) where
+  early : (r : ℕ) → r < net.run.rounds → r * net.run.step ≤ 18000
+  early r less = (let most = network.outline.run.rounds.1 in mul-le r net.run.step 600 30 (omega (arith, less, most)) network.outline.run.step.1)
+
+  first-line : IsLine (plan_at net node) (line_before net made 0 node)
+  first-line =
+      let p = plan-is net network node below in
+      let count = p.count.0 in
+      (rotation-next (plan_at net node) first_head 0 p (record { is = record { phase = omega (arith, count); begun = omega arith; within = omega arith }; since = omega arith; reach = omega arith }) (omega arith)).line
+
+  line-is : (r : ℕ) → r ≤ net.run.rounds → IsLine (plan_at net node) (line_before net made r node)
+  line-is zero few = first-line
+  line-is (suc r) few = (all-keep net network enters heard made net.run.rounds (omega arith) commits r node (omega (arith, few)) below).line
+
+  rounds-are : AreRounds (plan_at net node) (longest_intergreen (plan_at net node) net.run.look) net.run.rounds (λ r. r * net.run.step) (λ r. line_before net made r node)
+  rounds-are = record {
+    lawful = first-line.lawful;
+    intergreens = turned-intergreens (plan_at net node) net.run.look (is_unmarked_at (plan_at net node)) first_head _ 0;
+    each = λ r less. goes-on net network node below r (line_before net made r node) (sensed_in net enters made r node) (heard r node) (made r node) (early r less) (line-is r (omega (arith, less))) (commits r node less below).commit;
+  }
+
+  pub last-line : IsLawful (plan_at net node) (line_before net made net.run.rounds node) × AreIntergreensWithin (longest_intergreen (plan_at net node) net.run.look) (line_before net made net.run.rounds node)
+  last-line = kept (plan_at net node) (plan-is net network node below) (longest_intergreen (plan_at net node) net.run.look) net.run.rounds (λ r. r * net.run.step) (λ r. line_before net made r node) rounds-are net.run.rounds (omega arith)
+
+  -- each line begins with second 0, and the last ends after the run
+  begins-first : (r : ℕ) → r ≤ net.run.rounds → (row_at (line_before net made r node) 0).from ≡ 0
+  begins-first zero few = refl
+  begins-first (suc r) few =
+      let one = rounds-are.each r (omega (arith, few)) in
+      splice-begins (plan_at net node) (plan-is net network node below) (longest_intergreen (plan_at net node) net.run.look) (r * net.run.step) (line_before net made r node) (line_before net made (suc r) node) (line-is r (omega (arith, few))).lawful one
+      ∙ begins-first r (omega (arith, few))
+
+  ends-last : end_of_run net < end_of (line_before net made net.run.rounds node)
+  ends-last = by net.run.rounds network.outline.run.rounds.0 (omega arith)
+    where
+      by : (r : ℕ) → 1 ≤ r → r ≤ net.run.rounds → r * net.run.step < end_of (line_before net made r node)
+      by zero some few = absurd (omega (arith, some))
+      by (suc r) some few =
+          let late = ends-late net network node below r (line_before net made r node) (sensed_in net enters made r node) (heard r node) (made r node) (early r (omega (arith, few))) (line-is r (omega (arith, few))) (commits r node (omega (arith, few)) below).commit in
+          omega (arith, late, suc-mul r net.run.step, network.outline.run.within)
+
+-- the last lines cover the run, and it moved by them
+module _ (net : Net) (network : IsNetwork net) (enters : ℕ → ℕ → ℕ) (heard : ℕ → ℕ → List Heard) (made : ℕ → ℕ → Commitment) (commits : AllCommit net enters heard made net.run.rounds) where
+  pub covers : AreWholeLines net (intergreens_of net net.run.look) (end_of_run net) (line_before net made net.run.rounds)
+  covers node below =
+      let last = last-line net network enters heard made commits node below in
+      record {
+        lawful = last.0;
+        intergreens = last.1;
+        begins = begins-first net network enters heard made commits node below net.run.rounds (omega arith);
+        ends = ends-last net network enters heard made commits node below;
+      }
+
+  same-past : past_of net (arriving_by enters) (standing_by (line_before net made net.run.rounds)) (end_of_run net) ≡ past_by net enters made (end_of_run net)
+  same-past = past-at-nodes net network (arriving_by enters) (standing_by (line_before net made net.run.rounds)) (shown_by net made) (end_of_run net)
+      (λ x n less inside. shows net network (line_before net made) net.run.rounds (all-keep net network enters heard made net.run.rounds (omega arith) commits) net.run.rounds (omega arith) x n inside (div_below x net.run.step net.run.rounds network.outline.run.step.0 less))
+
+  pub run-waits : AreWaitsWithin net (wait_bounds net (intergreens_of net net.run.look)) (past_by net enters made (end_of_run net)) (end_of_run net)
+  run-waits = subst (λ (past : ℕ → ℕ → Cumulative). AreWaitsWithin net (wait_bounds net (intergreens_of net net.run.look)) past (end_of_run net)) same-past
+      (waits-within net network (arriving_by enters) (line_before net made net.run.rounds) (intergreens_of net net.run.look) (end_of_run net) covers)
+
+  pub run-empties : AreEmptied net (intergreens_of net net.run.look) (past_by net enters made (end_of_run net)) (end_of_run net)
+  run-empties = subst (λ (past : ℕ → ℕ → Cumulative). AreEmptied net (intergreens_of net net.run.look) past (end_of_run net)) same-past
+      (empties net network (arriving_by enters) (line_before net made net.run.rounds) (intergreens_of net net.run.look) (end_of_run net) covers)

@@ -1,0 +1,8 @@
+use Rattle.run_waits.proofs.Acting.{run-empties, run-waits}
+use Rattle.run_waits.proofs.actuated.law_of_actuated_waits.Goals as goal
+
+pub returns-clause-waits : goal.returns-clause-waits
+returns-clause-waits c = run-waits
+
+pub returns-clause-empties : goal.returns-clause-empties
+returns-clause-empties c = run-empties

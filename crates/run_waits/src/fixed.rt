@@ -1,0 +1,20 @@
+//! Waits under fixed plans.
+ghost use Rattle.std.specs.Prelude.{ℕ, ◌+◌, ◌<◌, ◌≤◌, Contains, List, length};
+ghost use Rattle.fixed_plans.specs.Lines.{cycle_length, fixed_line, rows_of};
+ghost use Rattle.fixed_plans.specs.Rows.{IsFixedPlan};
+ghost use Rattle.fixed_plans.specs.declared.rows.FixedRow.{FixedRow};
+ghost use Rattle.net_parts.specs.Numbers.{Net};
+ghost use Rattle.net_parts.specs.Outline.{plan_at};
+ghost use Rattle.net_simulator.specs.Sums.{end_of_run};
+ghost use Rattle.road_net.specs.Network.{IsNetwork};
+ghost use Rattle.waits.specs.Waits.{IsGreenBy};
+
+/// Under a fixed plan each phase that has a row is green within each length of its node's cycle.
+///
+/// docs/RULES.md, "How long a queue can wait".
+pub fn law_of_cycles()
+    ensures { (net : Net) → IsNetwork net → (rows : List FixedRow) → IsFixedPlan net rows
+        → (node : ℕ) → node < length net.node_names → (row : FixedRow) → Contains (rows_of rows node) row
+        → let length = cycle_length (plan_at net node) (rows_of rows node) in
+        (second : ℕ) → second ≤ end_of_run net → IsGreenBy (fixed_line net rows node) row.phase second (second + length) }
+{}
