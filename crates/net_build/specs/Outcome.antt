@@ -31,6 +31,7 @@ IsUnknownAt why _ = ⊥
 pub record HasOptions (run : Run) : Type 0 where
   pub age : IfSome run.age (λ age. (1 ≤ age) × (age ≤ 3600))
   pub hold : IfSome run.hold (λ hold. (1 ≤ hold) × (hold ≤ 20))
+  pub recall : IfSome run.recall (λ recall. (1 ≤ recall) × (recall ≤ 3600))
   pub act_step : IfSome run.act_step (IsActStep run.step)
 
 -- a test of bounds answers Ok where the fact holds, and otherwise names a place where `why` holds

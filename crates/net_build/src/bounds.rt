@@ -64,6 +64,7 @@ fn has_options(run: &Run) -> bool
 {
     run.age.is_none_or(|age| (1..=3600).contains(&age))
         && run.hold.is_none_or(|hold| (1..=20).contains(&hold))
+        && run.recall.is_none_or(|recall| (1..=3600).contains(&recall))
         && run
             .act_step
             .is_none_or(|act_step| is_act_step(run.step, act_step))

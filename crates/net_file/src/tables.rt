@@ -128,6 +128,7 @@ impl Element for Run {
         put_flag_if_true(alloc, table, "split", self.split)?;
         put_number_if(alloc, table, "age", self.age)?;
         put_number_if(alloc, table, "hold", self.hold)?;
+        put_number_if(alloc, table, "recall", self.recall)?;
         put_number_if(alloc, table, "act_step", self.act_step)
     }
 }

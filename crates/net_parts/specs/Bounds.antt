@@ -32,6 +32,7 @@ pub record IsRun (run : Run) : Type 0 where
   pub rounds : (1 ≤ run.rounds) × (run.rounds ≤ 600)
   pub age : IfSome run.age (λ age. (1 ≤ age) × (age ≤ 3600))
   pub hold : IfSome run.hold (λ hold. (1 ≤ hold) × (hold ≤ 20))
+  pub recall : IfSome run.recall (λ recall. (1 ≤ recall) × (recall ≤ 3600))
   pub act_step : IfSome run.act_step (IsActStep run.step)
 
 -- a phase and how many links it names

@@ -27,8 +27,8 @@ run_fields ms = do
   course ← numbers_at (codes "gap") (codes "rounds") ms
   split ← flag_at false (codes "split") ms
   limits ← optional_numbers_at (codes "age") (codes "hold") ms
-  act_step ← optional_number_at (codes "act_step") ms
-  Some (record { step = ahead.0; look = ahead.1; gap = course.0; rounds = course.1; split = split; age = limits.0; hold = limits.1; act_step = act_step })
+  further ← optional_numbers_at (codes "recall") (codes "act_step") ms
+  Some (record { step = ahead.0; look = ahead.1; gap = course.0; rounds = course.1; split = split; age = limits.0; hold = limits.1; recall = further.0; act_step = further.1 })
 
 -- the times and the mark of a phase
 unfoldable pub phase_times : Bool → Members → Option Phase

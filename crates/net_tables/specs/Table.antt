@@ -113,10 +113,10 @@ optional_list_at key ms = list_if (get_member key ms)
 
 -- the keys of a run
 unfoldable pub run_keys : List (List ℕ)
-run_keys = codes "step" ∷ codes "look" ∷ codes "gap" ∷ codes "rounds" ∷ codes "split" ∷ codes "age" ∷ codes "hold" ∷ codes "act_step" ∷ []
+run_keys = codes "step" ∷ codes "look" ∷ codes "gap" ∷ codes "rounds" ∷ codes "split" ∷ codes "age" ∷ codes "hold" ∷ codes "recall" ∷ codes "act_step" ∷ []
 
--- the run of a table that has its keys and no other, each of its kind, as all tables below must; `split`, `age`, `hold`
--- and `act_step` may be absent in every file
+-- the run of a table that has its keys and no other, each of its kind, as all tables below must; `split`, `age`, `hold`,
+-- `recall` and `act_step` may be absent in every file
 unfoldable pub run_of : Members → Option Run
 run_of ms = do
   ms ← only run_keys ms
@@ -127,8 +127,9 @@ run_of ms = do
   split ← flag_at false (codes "split") ms
   age ← optional_number_at (codes "age") ms
   hold ← optional_number_at (codes "hold") ms
+  recall ← optional_number_at (codes "recall") ms
   act_step ← optional_number_at (codes "act_step") ms
-  Some (record { step = step; look = look; gap = gap; rounds = rounds; split = split; age = age; hold = hold; act_step = act_step })
+  Some (record { step = step; look = look; gap = gap; rounds = rounds; split = split; age = age; hold = hold; recall = recall; act_step = act_step })
 
 -- the keys of a phase
 unfoldable pub phase_keys : List (List ℕ)

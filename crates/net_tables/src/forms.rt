@@ -64,7 +64,7 @@ fn run_fields(table: &Table) -> Option<Run>
     let (gap, rounds) = numbers_at(table, "gap", "rounds")?;
     let split = flag_at(table, "split", false)?;
     let (age, hold) = optional_numbers_at(table, "age", "hold")?;
-    let act_step = optional_number_at(table, "act_step")?;
+    let (recall, act_step) = optional_numbers_at(table, "recall", "act_step")?;
     Some(Run {
         step,
         look,
@@ -73,6 +73,7 @@ fn run_fields(table: &Table) -> Option<Run>
         split,
         age,
         hold,
+        recall,
         act_step,
     })
 }
@@ -83,7 +84,7 @@ fn only_run_keys(table: &Table) -> Option<&Table>
     ensures { option_map (λ table. table_view table.now) result ≡ spec.only spec.run_keys (table_view table.now) }
 {
     let keys = [
-        "step", "look", "gap", "rounds", "split", "age", "hold", "act_step",
+        "step", "look", "gap", "rounds", "split", "age", "hold", "recall", "act_step",
     ];
     only(table, &keys)
 }

@@ -58,6 +58,7 @@ fn draft_of(alloc: Global, side: u32, rounds: u32, roads: &[Road]) -> Result<Dra
             split: false,
             age: None,
             hold: None,
+            recall: None,
             act_step: None,
         },
         nodes,
