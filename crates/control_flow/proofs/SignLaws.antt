@@ -40,9 +40,9 @@ pub on-row : (before : Option ℕ) (r : Green) (rs ss : List Green) (second : �
 on-row before r rs ss second e = elim (cases_lt second r.from) [
   | inl early ↦ ap on_of (before-row before r rs second early ∙ sym (before-row before r ss second early))
   | inr begun ↦ elim (cases_lt second r.to) [
-      | inl within ↦ ap on_of (within-row before r rs second begun within ∙ sym (within-row before r ss second begun within))
-      | inr over ↦ ap on_of (after-row before r rs second begun over) ∙ e ∙ sym (ap on_of (after-row before r ss second begun over))
-    ]
+    | inl within ↦ ap on_of (within-row before r rs second begun within ∙ sym (within-row before r ss second begun within))
+    | inr over ↦ ap on_of (after-row before r rs second begun over) ∙ e ∙ sym (ap on_of (after-row before r ss second begun over))
+  ]
 ]
 
 -- by the place of the first row that ends after a second
