@@ -83,9 +83,11 @@ pub fn sensed_of(sensed: &Sensed, l: u32) -> (u32, &[u32])
     }
 }
 
-/// For how many seconds the queue of a link has stood.
+/// For how many seconds the queue of a link has stood; of a link that is not sensed, none.
+///
+/// docs/RULES.md, "What a node sees".
 #[tactic(auto, unfolding(crate::specs::Inflow::sense_of))]
-pub(crate) fn stood_on(sensed: &Sensed, l: u32) -> u32
+pub fn stood_on(sensed: &Sensed, l: u32) -> u32
     ensures { result ≡ (sense_of sensed.entry.now l).stood }
 {
     match find_sense(sensed, l) {

@@ -11,7 +11,7 @@ mod spans;
 mod vehicle_groups;
 mod windows;
 
-pub use inflows::sensed_of;
+pub use inflows::{sensed_of, stood_on};
 pub use node_platoons::{expected_platoons, law_without_options, platoons};
 pub use parts::Parts;
 pub use smoothing::smooth;

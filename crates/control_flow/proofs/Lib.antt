@@ -2,6 +2,7 @@ pub mod ApartLaws
 pub mod MakingLaws
 pub mod MarkLaws
 pub mod OrderLaws
+pub mod RecallLaws
 pub mod RingLaws
 pub mod RowLaws
 pub mod SequenceLaws

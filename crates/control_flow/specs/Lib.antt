@@ -1,4 +1,5 @@
 pub mod Greens
+pub mod Recalls
 pub mod Signs
 pub mod Timelines
 pub use Rattle.phase_plan.specs.Phases

@@ -2,6 +2,7 @@ pub mod ArrivalLaws
 pub mod Filtered
 pub mod LineLaws
 pub mod PlanLaws
+pub mod RecallLaws
 pub mod RoundLaws
 pub mod ServedLaws
 pub mod SettleLaws

@@ -54,7 +54,7 @@ taken a reads h heard want left same wants =
 in-round-without : (net : Net) (a : Acting) (want : Want) → IsInRound net a want → IsInRound net (without_records a) want
 in-round-without net a (Read link) is = record { round = is.round; now = is.now; sensed = is.sensed; ahead = is.ahead; heard = is.heard; want = is.want }
 in-round-without net a Commit is = record { round = is.round; now = is.now; sensed = is.sensed; ahead = is.ahead; heard = is.heard; want = is.want }
-in-round-without net a (Publish link) is = record { link = is.link; now = is.now; platoons = is.platoons; head = is.head; served = is.served }
+in-round-without net a (Publish link) is = record { link = is.link; now = is.now; platoons = is.platoons; plan = is.plan; head = is.head; served = is.served }
 in-round-without net a Done is = is
 
 -- an actor whose records are moved is still of every network that it was of

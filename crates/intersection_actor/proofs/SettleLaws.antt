@@ -15,7 +15,7 @@ use Rattle.clusters.specs.Sound.{cluster_lists}
 use Rattle.clusters.specs.Windows as windows
 use Rattle.clusters.specs.declared.vehicle_groups.Platoon.{Platoon}
 use Rattle.intersection_actor.specs.Acting.{Acting, reading, telling, tells_from, wanting}
-use Rattle.intersection_actor.specs.Commits.{record_of, used_of}
+use Rattle.intersection_actor.specs.Commits.{record_of, round_plan, used_of}
 use Rattle.intersection_actor.specs.Rounds.{IsCommitted, IsHearing, IsInRound, IsOf, IsTelling, KeepsPast}
 use Rattle.intersection_actor.specs.Splices.{record_from}
 use Rattle.intersection_actor.specs.Steps.{IsPlanned, commitment}
@@ -80,7 +80,7 @@ sent-of net a link first is wants =
       node = is.node;
       lawful = is.lawful;
       begins = is.begins;
-      round = tells-in net (wanting (tells_from net a.node first) a) first (λ l there. record { link = there; now = tells.now; platoons = tells.platoons; head = tells.head; served = tells.served });
+      round = tells-in net (wanting (tells_from net a.node first) a) first (λ l there. record { link = there; now = tells.now; platoons = tells.platoons; plan = tells.plan; head = tells.head; served = tells.served });
     }
 
 -- the actor with what a plan of its round leaves it
@@ -140,8 +140,9 @@ module _ (net : Net) (a b : Acting) (p : RoundPlan) (line : List Green) (records
     link = there;
     now = hears.sensed.now;
     platoons = planned.of_node;
+    plan = round_plan net a.node a.sensed;
     head = planned.head;
-    served = subst (λ ns. AreNextServings (plan_at net a.node) (cluster_lists p.window.lists) ns planned.head p.schedule.phases p.schedule.served) (counts-same p.window.lists) planned.served;
+    served = subst (λ ns. AreNextServings (round_plan net a.node a.sensed) (cluster_lists p.window.lists) ns planned.head p.schedule.phases p.schedule.served) (counts-same p.window.lists) planned.served;
   }
 
   pub still : want ≡ tells_from net a.node 0 → IsOf net (settled a p line records want)

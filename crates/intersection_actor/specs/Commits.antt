@@ -1,5 +1,6 @@
 -- A commit: what a node plans in a round, from its signal, what it senses and what it has heard.
-use Rattle.std.specs.Prelude.{◌≡◌, ℕ, ◌+◌, ◌*◌, List, [], Some, map}
+use Rattle.std.specs.Prelude.{◌≡◌, ℕ, ◌+◌, ◌*◌, Bool, nat_le, List, [], Option, None, Some, map}
+use Rattle.std.specs.List.{list_any}
 use Rattle.std.specs.Option.{option_map}
 use Rattle.board_model.specs.declared.boards.Heard.{Heard}
 use Rattle.phase_plan.specs.declared.Phase.{Phase}
@@ -11,11 +12,13 @@ use Rattle.schedule_meaning.specs.Timing.{timed}
 use Rattle.schedule_meaning.specs.declared.planners.Answer.{Answer}
 use Rattle.schedule_meaning.specs.declared.planners.Answer.TheVariants.{Plan, NoPlan}
 use Rattle.control_flow.specs.Greens.{head_at, spliced}
+use Rattle.control_flow.specs.Recalls.{recalled}
 use Rattle.control_flow.specs.Timelines.{line_of, rotation_of}
 use Rattle.control_flow.specs.declared.greens.Green.{Green}
 use Rattle.net_parts.specs.Numbers.{Net}
-use Rattle.net_parts.specs.Outline.{plan_at}
+use Rattle.net_parts.specs.Outline.{phase_links_at, plan_at}
 use Rattle.road_net.specs.declared.senses.Sensed.{Sensed}
+use Rattle.clusters.specs.Inflow.{sense_of}
 use Rattle.clusters.specs.Sound.{cluster_lists}
 use Rattle.clusters.specs.Options.{AreExpected}
 use Rattle.clusters.specs.Windows.{IsWindow}
@@ -50,13 +53,26 @@ abbrev pub line_for : List Phase → Head → Answer → List Served → ℕ →
 line_for plan head (Plan sequence delay) served until = line_of plan head sequence served until
 line_for plan head NoPlan served until = rotation_of plan head until
 
+-- Whether a node recalls phase k in this round: the queue of one of its links has stood for this many seconds or longer.
+abbrev pub is_recalled : Net → ℕ → Sensed → ℕ → ℕ → Bool
+is_recalled net node sensed recall k = list_any (λ l. nat_le recall (sense_of sensed l).stood) (phase_links_at net node k)
+
+-- the phases of a node as it plans them in this round: where the network has `recall`, those that it recalls have no mark
+abbrev pub plan_by : Net → ℕ → Sensed → Option ℕ → List Phase
+plan_by net node sensed None = plan_at net node
+plan_by net node sensed (Some recall) = recalled (plan_at net node) (is_recalled net node sensed recall)
+
+-- and by the network's own `recall`
+abbrev pub round_plan : Net → ℕ → Sensed → List Phase
+round_plan net node sensed = plan_by net node sensed net.run.recall
+
 -- What a node has to plan, from its line, what it senses and what it has heard: the clusters of the window of the platoons that it
--- expects, from the head that its line has now.
+-- expects, from the head that its line has now, by its phases of this round.
 pub record IsProblemOf (net : Net) (node : ℕ) (line : List Green) (sensed : Sensed) (heard : List Heard) (head : Head) (platoons : List (List Platoon)) (window : Window) (problem : Problem) : Type 0 where
   pub at : head_at (plan_at net node) line sensed.now ≡ Some head
   pub expected : AreExpected net node head sensed heard platoons
   pub taken : IsWindow platoons window
-  pub is : problem ≡ record { plan = plan_at net node; head = head; lists = cluster_lists window.lists }
+  pub is : problem ≡ record { plan = round_plan net node sensed; head = head; lists = cluster_lists window.lists }
 
 -- A node's commit in a round: of what it has to plan it takes the best answer; its new line is the old one, spliced with the
 -- timeline of that answer for as long as the network looks ahead.
@@ -65,7 +81,7 @@ pub record IsCommit (net : Net) (node round : ℕ) (old : List Green) (sensed : 
   pub problem : IsProblemOf net node old sensed heard c.head c.platoons c.window c.problem
   pub answer : IsBest c.problem c.answer
   pub served : AreServedBy c.problem c.answer c.served
-  pub next : c.next ≡ line_for (plan_at net node) c.head c.answer c.served (sensed.now + net.run.look)
+  pub next : c.next ≡ line_for (round_plan net node sensed) c.head c.answer c.served (sensed.now + net.run.look)
   pub line : c.line ≡ spliced old c.next
 
 -- the versions that were heard, each with its link, in the order in which they were heard

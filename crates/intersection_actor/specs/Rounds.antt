@@ -1,6 +1,7 @@
 -- Which actors are of a network, and what a commit makes of an actor.
-use Rattle.std.specs.Prelude.{◌≡◌, ℕ, ◌+◌, ◌*◌, ◌<◌, ◌≤◌, ◌++◌, [], ◌∷◌, Contains, length, map}
+use Rattle.std.specs.Prelude.{◌≡◌, ℕ, ◌+◌, ◌*◌, ◌<◌, ◌≤◌, ◌++◌, List, [], ◌∷◌, Contains, length, map}
 use Rattle.net_parts.specs.Limits.{most_seconds}
+use Rattle.phase_plan.specs.declared.Phase.{Phase}
 use Rattle.switch_rules.specs.Sequences.{AreNextServings}
 use Rattle.switch_rules.specs.declared.Head.{Head}
 use Rattle.control_flow.specs.Greens.{BeginBy, IsLawful, colour_at, end_of}
@@ -31,13 +32,14 @@ pub record IsHearing (net : Net) (a : Acting) : Type 0 where
   pub want : a.want ≡ reading a.left
 
 -- The actor tells on this link, one on which its node tells another one: the platoons of its window are the node's, and its
--- servings those of these phases from some head.
+-- servings those of these phases by some plan and from some head.
 pub record IsTelling (net : Net) (a : Acting) (wanted : ℕ) : Type 0 where
   pub link : Contains (told_links net a.node) wanted
   pub now : a.sensed.now ≤ most_seconds
   pub platoons : AreOfNode net a.node a.sensed.now a.window.lists
+  pub plan : List Phase
   pub head : Head
-  pub served : AreNextServings (plan_at net a.node) (cluster_lists a.window.lists) (counts_of a.window.lists) head a.phases a.served
+  pub served : AreNextServings plan (cluster_lists a.window.lists) (counts_of a.window.lists) head a.phases a.served
 
 -- how far an actor of the network is that wants this
 abbrev pub IsInRound : Net → Acting → Want → Type 0

@@ -19,7 +19,7 @@ use Rattle.clusters.specs.Options.{AreExpected}
 use Rattle.clusters.specs.Windows.{IsWindow}
 use Rattle.clusters.specs.declared.vehicle_groups.Platoon.{Platoon}
 use Rattle.clusters.specs.declared.vehicle_groups.Window.{Window}
-use Rattle.intersection_actor.specs.Commits.{AreServedBy, Commitment, IsCommit, line_for, phases_of, used_of}
+use Rattle.intersection_actor.specs.Commits.{AreServedBy, Commitment, IsCommit, line_for, phases_of, round_plan, used_of}
 use Rattle.intersection_actor.specs.declared.planning.Schedule.{Schedule}
 use Rattle.intersection_actor.specs.declared.planning.RoundPlan.{RoundPlan}
 
@@ -57,11 +57,11 @@ pub record AreSoonServed (plan : List Phase) (head : Head) (s : Schedule) : Type
   pub served : AreServings plan head s.phases s.served
   pub greens : All (λ (r : Served). r.green ≤ 100000) s.served
 
--- the best answer of a problem, and its timeline from a head
-pub record HasLine (p : Problem) (plan : List Phase) (head : Head) (until : ℕ) (s : Schedule) (line : List Green) : Type 0 where
+-- the best answer of a problem, and its timeline from the problem's head
+pub record HasLine (p : Problem) (until : ℕ) (s : Schedule) (line : List Green) : Type 0 where
   pub schedule : IsScheduled p s
-  pub value : line ≡ line_for plan head s.answer s.served until
-  pub next : IsNextLine plan head until line
+  pub value : line ≡ line_for p.plan p.head s.answer s.served until
+  pub next : IsNextLine p.plan p.head until line
 
 -- what a plan of a round commits to, from this line, head and platoons
 abbrev pub commitment : List Green → Head → List (List Platoon) → RoundPlan → Commitment
@@ -84,7 +84,7 @@ pub record IsPlanned (net : Net) (node : ℕ) (old : List Green) (sensed : Sense
   pub is : (round : ℕ) → sensed.now ≡ round * net.run.step → IsCommit net node round old sensed heard (commitment old head platoons p)
   pub of_node : AreOfNode net node sensed.now p.window.lists
   pub phases : p.schedule.phases ≡ phases_of p.schedule.answer
-  pub served : AreNextServings (plan_at net node) (cluster_lists p.window.lists) (counts_of (cluster_lists p.window.lists)) head p.schedule.phases p.schedule.served
+  pub served : AreNextServings (round_plan net node sensed) (cluster_lists p.window.lists) (counts_of (cluster_lists p.window.lists)) head p.schedule.phases p.schedule.served
   pub joins : Joins old p.next
   pub line : IsNextLine (plan_at net node) head (sensed.now + net.run.look) p.next
   pub used : p.used ≡ used_of heard

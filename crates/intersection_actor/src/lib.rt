@@ -5,6 +5,7 @@ mod actors;
 mod plan_fields;
 mod planning;
 mod reads;
+mod recalls;
 mod records;
 
 pub use actors::Actor;

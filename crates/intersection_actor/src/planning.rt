@@ -13,6 +13,7 @@ ghost use Rattle.schedule_meaning.specs.Best.{IsBest};
 ghost use Rattle.switch_rules.specs.declared.Served.{Served};
 ghost use Rattle.switch_rules.specs.Serving.{IsHead};
 
+use crate::recalls::round_plan;
 use crate::records::{PlanRecord, Used};
 use board_model::Heard;
 use clusters::{Platoon, Window, expected_platoons, window};
@@ -69,15 +70,16 @@ pub(crate) fn plan_round<P: Planner>(
     requires heard { IsHeardOf net.now node heard.now }
     ensures { IfOk result (IsPlanned net.now node line.now sensed.entry.now heard.now) }
 {
-    let plan = net.plan(node);
+    let own = net.plan(node);
     // Called for its clause `plan`, and not for the count.
-    let _ = plan.count();
+    let _ = own.count();
     let until = sensed.now + net.run().look;
-    let head = head_at(plan, line, sensed.now);
+    let head = head_at(own, line, sensed.now);
     let used = used_versions(alloc, heard)?;
     let window = expected_window(alloc, net, node, &head, sensed, heard)?;
+    let plan = round_plan(alloc, net, node, sensed)?;
     let instance = problem(alloc, plan, &head, &window)?;
-    let (schedule, next) = schedule_line(alloc, planner, &instance, plan, &head, until)?;
+    let (schedule, next) = schedule_line(alloc, planner, &instance, until)?;
     Ok(RoundPlan {
         window,
         instance,
@@ -111,22 +113,21 @@ fn expected_window(
 /// The instance of a plan, a head and the clusters of a window.
 fn problem(
     alloc: Global,
-    plan: &PhasePlan,
+    plan: PhasePlan,
     head: &Head,
     window: &Window,
 ) -> Result<Instance, AllocError>
-    requires head { IsHead plan.now head.now }
+    requires head { IsHead plan head.now }
     requires since { head.now.since ≤ 100000 }
-    requires lists { length window.now.lists ≡ length plan.now }
+    requires lists { length window.now.lists ≡ length plan }
     requires plannable { ArePlannable (cluster_lists window.now.lists) }
     ensures { IfOk result (λ i. i
-        ≡ record { plan = plan.now; head = head.now; lists = cluster_lists window.now.lists }) }
+        ≡ record { plan = plan; head = head.now; lists = cluster_lists window.now.lists }) }
 {
     // Called for its clause `plan`, and not for the count.
     let _ = plan.count();
     let lists = cluster_lists(alloc, window.lists.as_slice())?;
-    let copy = plan.copy(alloc)?;
-    match Instance::new(copy, *head, lists) {
+    match Instance::new(plan, *head, lists) {
         Ok(instance) => Ok(instance),
         Err(_) => unreachable!(),
     }
@@ -175,18 +176,17 @@ fn schedule_line<P: Planner>(
     alloc: Global,
     planner: &mut P,
     i: &Instance,
-    plan: &PhasePlan,
-    head: &Head,
     until: u32,
 ) -> Result<(Schedule, Timeline), AllocError>
-    requires head { IsHead plan.now head.now }
-    requires reach { head.now.at ≤ 100000 }
+    requires reach { i.now.head.at ≤ 100000 }
     requires until { until ≤ 99980 }
-    requires law { (s : Schedule) → IsScheduled i.now s → AreSoonServed plan.now head.now s }
-    ensures { IfOk result (λ made. HasLine i.now plan.now head.now until made.0 made.1) }
+    requires law { (s : Schedule) → IsScheduled i.now s → AreSoonServed i.now.plan i.now.head s }
+    ensures { IfOk result (λ made. HasLine i.now until made.0 made.1) }
 {
+    let plan = i.plan();
+    let head = i.head();
     let schedule = best_schedule(alloc, planner, i)?;
-    let next = next_line(alloc, plan, head, &schedule, until)?;
+    let next = next_line(alloc, plan, &head, &schedule, until)?;
     Ok((schedule, next))
 }
 

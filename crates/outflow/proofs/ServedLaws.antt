@@ -141,9 +141,10 @@ coming-early net node exit now d plan lists left head (k ∷ ks) (s ∷ ss) of h
 -- The first i servings have been added: `taken` platoons of each phase are taken, and the others are left; from the head on,
 -- nothing has been added yet.
 pub record IsFilling (net : Net) (node exit now : ℕ) (lists : List (List Platoon)) (phases : List ℕ) (served : List Served) (taken amounts : List ℕ) (i : ℕ) : Type 0 where
+  pub plan : List Phase
   pub left : List ℕ
   pub head : Head
-  pub servings : AreNextServings (plan_at net node) (cluster_lists lists) left head (drop i phases) (drop i served)
+  pub servings : AreNextServings plan (cluster_lists lists) left head (drop i phases) (drop i served)
   pub size : length taken ≡ 4
   pub few : (k : ℕ) → get_or taken k 0 ≤ i
   pub counts : (k : ℕ) → k < length lists → get_or taken k 0 + get_or left k 0 ≡ length (platoons_at lists k)
@@ -162,9 +163,10 @@ zeros-at n k = elim (cases_lt k n) [
   | inr past ↦ get_or_past (zeros n) k 0 (let e : length (zeros n) ≡ n = length-replicate n (let z : ℕ = 0 in z) in omega (arith, e))
 ]
 
-pub filling-none : (net : Net) (node exit now : ℕ) (lists : List (List Platoon)) (phases : List ℕ) (served : List Served) → AreServed (plan_at net node) lists phases served
+pub filling-none : (net : Net) (node exit now : ℕ) (lists : List (List Platoon)) (phases : List ℕ) (served : List Served) → AreServed lists phases served
     → IsFilling net node exit now lists phases served (zeros 4) (zeros net.run.look) 0
 filling-none net node exit now lists phases served h = record {
+  plan = h.plan;
   left = counts_of lists;
   head = h.head;
   servings = h.servings;
@@ -178,30 +180,30 @@ filling-none net node exit now lists phases served h = record {
 }
 
 -- the next serving: there is one for each phase, and its facts
-pub record IsAt (net : Net) (node now : ℕ) (lists : List (List Platoon)) (left : List ℕ) (head : Head) (ks : List ℕ) (ss : List Served) (i : ℕ) (d : Served) : Type 0 where
+pub record IsAt (net : Net) (node now : ℕ) (plan : List Phase) (lists : List (List Platoon)) (left : List ℕ) (head : Head) (ks : List ℕ) (ss : List Served) (i : ℕ) (d : Served) : Type 0 where
   pub below : i < length ss
   pub next : IsNext net node now lists left head (get_or ks i 0) (get_or ss i d)
   pub phases : drop i ks ≡ get_or ks i 0 ∷ drop (i + 1) ks
   pub served : drop i ss ≡ get_or ss i d ∷ drop (i + 1) ss
-  pub rest : AreNextServings (plan_at net node) (cluster_lists lists) (one_less left (get_or ks i 0)) (head_after (get_or ks i 0) (get_or ss i d)) (drop (i + 1) ks) (drop (i + 1) ss)
+  pub rest : AreNextServings plan (cluster_lists lists) (one_less left (get_or ks i 0)) (head_after (get_or ks i 0) (get_or ss i d)) (drop (i + 1) ks) (drop (i + 1) ss)
 
 more-servings : (plan : List Phase) (lists : List (List Cluster)) (left : List ℕ) (head : Head) (k : ℕ) (ks : List ℕ) (ss : List Served) → AreNextServings plan lists left head (k ∷ ks) ss → 0 < length ss
 more-servings plan lists left head k ks [] h = absurd h
 more-servings plan lists left head k ks (s ∷ ss) h = omega arith
 
-pub serving-at : (net : Net) (node now : ℕ) (lists : List (List Platoon)) (left : List ℕ) (head : Head) (ks : List ℕ) (ss : List Served) (i : ℕ) (d : Served)
-    → AreOfNode net node now lists → AreNextServings (plan_at net node) (cluster_lists lists) left head (drop i ks) (drop i ss) → i < length ks → IsAt net node now lists left head ks ss i d
-serving-at net node now lists left head ks ss i d of h lt =
+pub serving-at : (net : Net) (node now : ℕ) (plan : List Phase) (lists : List (List Platoon)) (left : List ℕ) (head : Head) (ks : List ℕ) (ss : List Served) (i : ℕ) (d : Served)
+    → AreOfNode net node now lists → AreNextServings plan (cluster_lists lists) left head (drop i ks) (drop i ss) → i < length ks → IsAt net node now plan lists left head ks ss i d
+serving-at net node now plan lists left head ks ss i d of h lt =
     let front : drop i ks ≡ get_or ks i 0 ∷ drop (i + 1) ks = rw (add-one i) (drop-cons ks i 0 lt) in
-    let P : List ℕ → Type 0 = λ qs. AreNextServings (plan_at net node) (cluster_lists lists) left head qs (drop i ss) in
-    let one : AreNextServings (plan_at net node) (cluster_lists lists) left head (get_or ks i 0 ∷ drop (i + 1) ks) (drop i ss) = subst P front h in
-    let below : i < length ss = omega (arith, more-servings (plan_at net node) (cluster_lists lists) left head (get_or ks i 0) (drop (i + 1) ks) (drop i ss) one, length-drop i ss) in
+    let P : List ℕ → Type 0 = λ qs. AreNextServings plan (cluster_lists lists) left head qs (drop i ss) in
+    let one : AreNextServings plan (cluster_lists lists) left head (get_or ks i 0 ∷ drop (i + 1) ks) (drop i ss) = subst P front h in
+    let below : i < length ss = omega (arith, more-servings plan (cluster_lists lists) left head (get_or ks i 0) (drop (i + 1) ks) (drop i ss) one, length-drop i ss) in
     let first : drop i ss ≡ get_or ss i d ∷ drop (i + 1) ss = rw (add-one i) (drop-cons ss i d below) in
-    let Q : List Served → Type 0 = λ qs. AreNextServings (plan_at net node) (cluster_lists lists) left head (get_or ks i 0 ∷ drop (i + 1) ks) qs in
-    let both : AreNextServings (plan_at net node) (cluster_lists lists) left head (get_or ks i 0 ∷ drop (i + 1) ks) (get_or ss i d ∷ drop (i + 1) ss) = subst Q first one in
+    let Q : List Served → Type 0 = λ qs. AreNextServings plan (cluster_lists lists) left head (get_or ks i 0 ∷ drop (i + 1) ks) qs in
+    let both : AreNextServings plan (cluster_lists lists) left head (get_or ks i 0 ∷ drop (i + 1) ks) (get_or ss i d ∷ drop (i + 1) ss) = subst Q first one in
     record {
       below = below;
-      next = next-of net node now (plan_at net node) lists left head (get_or ks i 0) (get_or ss i d) of both.0;
+      next = next-of net node now plan lists left head (get_or ks i 0) (get_or ss i d) of both.0;
       phases = front;
       served = first;
       rest = both.1;
@@ -286,7 +288,7 @@ pub filling-more : (net : Net) (node exit now : ℕ) (lists : List (List Platoon
 filling-more net node exit now lists ks ss taken amounts more i first d platoon of h lt four is e same near far net_is there =
     let travel : ℕ = (link_at net exit).travel in
     let p : ℕ = get_or ks i 0 in
-    let at : IsAt net node now lists h.left h.head ks ss i d = serving-at net node now lists h.left h.head ks ss i d of h.servings lt in
+    let at : IsAt net node now h.plan lists h.left h.head ks ss i d = serving-at net node now h.plan lists h.left h.head ks ss i d of h.servings lt in
     let room : get_or ks i 0 < length taken = omega (arith, h.size, at.next.phase) in
     let start : h.head.at ≤ (get_or ss i d).start = at.next.times.later in
     let fit : IsFitPlatoon net (next_platoon lists h.left (get_or ks i 0)) =
@@ -295,6 +297,7 @@ filling-more net node exit now lists ks ss taken amounts more i first d platoon 
     let parts_are : platoon.parts ≡ (next_platoon lists h.left (get_or ks i 0)).parts = ap (λ (q : Platoon). q.parts) is in
     let zero_before : (k : ℕ) → first ≤ k → get_or amounts k 0 ≡ 0 = λ k le. h.clear k (omega arith) in
     record {
+      plan = h.plan;
       left = one_less h.left (get_or ks i 0);
       head = head_after (get_or ks i 0) (get_or ss i d);
       servings = at.rest;
@@ -358,7 +361,7 @@ filling-more net node exit now lists ks ss taken amounts more i first d platoon 
     }
 
 pub filling-all : (net : Net) (node exit now : ℕ) (lists : List (List Platoon)) (ks : List ℕ) (ss : List Served) (taken amounts : List ℕ) (i : ℕ)
-    → AreOfNode net node now lists → AreServed (plan_at net node) lists ks ss → IsFilling net node exit now lists ks ss taken amounts i → length ks ≤ i → IsNetwork net
+    → AreOfNode net node now lists → AreServed lists ks ss → IsFilling net node exit now lists ks ss taken amounts i → length ks ≤ i → IsNetwork net
     → AreArriving net exit now (departures lists (counts_of lists) ks ss) amounts
 filling-all net node exit now lists ks ss taken amounts i of served h all net_is =
     let none : drop i ks ≡ [] = drop_all i ks all in
@@ -367,7 +370,7 @@ filling-all net node exit now lists ks ss taken amounts i of served h all net_is
       few = omega (arith, h.count, net_is.outline.run.look.1);
       value = λ k lt. let gone : coming_in net exit (departures lists h.left (drop i ks) (drop i ss)) (now + k) ≡ 0 = ap (λ qs. coming_in net exit (departures lists h.left qs (drop i ss)) (now + k)) none in omega (arith, h.value k lt, gone);
       most = h.most;
-      early = λ d lt. coming-early net node exit now d (plan_at net node) lists (counts_of lists) served.head ks ss of served.servings lt;
+      early = λ d lt. coming-early net node exit now d served.plan lists (counts_of lists) served.head ks ss of served.servings lt;
     }
 
 -- a network's node has at most four phases
@@ -390,7 +393,7 @@ pub platoon-found : (net : Net) (node exit now : ℕ) (lists : List (List Platoo
     → AreOfNode net node now lists → (h : IsFilling net node exit now lists ks ss taken amounts i) → i < length ks → list ≡ platoons_at lists (get_or ks i 0)
     → Some p ≡ slice_get list (get_or taken (get_or ks i 0) 0) → p ≡ next_platoon lists h.left (get_or ks i 0)
 platoon-found net node exit now lists ks ss taken amounts i list p of h lt e found =
-    let at : IsAt net node now lists h.left h.head ks ss i no_served = serving-at net node now lists h.left h.head ks ss i no_served of h.servings lt in
+    let at : IsAt net node now h.plan lists h.left h.head ks ss i no_served = serving-at net node now h.plan lists h.left h.head ks ss i no_served of h.servings lt in
     let place : get_or taken (get_or ks i 0) 0 ≡ length (platoons_at lists (get_or ks i 0)) - get_or h.left (get_or ks i 0) 0 = omega (arith, h.counts (get_or ks i 0) at.next.phase) in
     sym (get_or_from_slice_get list (get_or taken (get_or ks i 0) 0) p no_platoon (sym found))
     ∙ ap (λ (l : List Platoon). get_or l (get_or taken (get_or ks i 0) 0) no_platoon) e
@@ -400,7 +403,7 @@ pub platoon-there : (net : Net) (node exit now : ℕ) (lists : List (List Platoo
     → AreOfNode net node now lists → (h : IsFilling net node exit now lists ks ss taken amounts i) → i < length ks → list ≡ platoons_at lists (get_or ks i 0)
     → None ≡ slice_get list (get_or taken (get_or ks i 0) 0) → ⊥
 platoon-there net node exit now lists ks ss taken amounts i list of h lt e gone =
-    let at : IsAt net node now lists h.left h.head ks ss i no_served = serving-at net node now lists h.left h.head ks ss i no_served of h.servings lt in
+    let at : IsAt net node now h.plan lists h.left h.head ks ss i no_served = serving-at net node now h.plan lists h.left h.head ks ss i no_served of h.servings lt in
     let inside : get_or taken (get_or ks i 0) 0 < length list = omega (arith, ap length e, h.counts (get_or ks i 0) at.next.phase, at.next.some) in
     let there : slice_get list (get_or taken (get_or ks i 0) 0) ≡ Some (get_or list (get_or taken (get_or ks i 0) 0) no_platoon) = slice_get-get_or list (get_or taken (get_or ks i 0) 0) no_platoon inside in
     let both : None ≡ Some (get_or list (get_or taken (get_or ks i 0) 0) no_platoon) = gone ∙ there in
@@ -409,20 +412,20 @@ platoon-there net node exit now lists ks ss taken amounts i list of h lt e gone 
 pub serving-late : (net : Net) (node exit now : ℕ) (lists : List (List Platoon)) (ks : List ℕ) (ss : List Served) (taken amounts : List ℕ) (i : ℕ)
     → AreOfNode net node now lists → (h : IsFilling net node exit now lists ks ss taken amounts i) → i < length ks → now ≤ (get_or ss i no_served).start
 serving-late net node exit now lists ks ss taken amounts i of h lt =
-    let at : IsAt net node now lists h.left h.head ks ss i no_served = serving-at net node now lists h.left h.head ks ss i no_served of h.servings lt in
+    let at : IsAt net node now h.plan lists h.left h.head ks ss i no_served = serving-at net node now h.plan lists h.left h.head ks ss i no_served of h.servings lt in
     omega (arith, at.next.times.arrived, at.next.platoon.arr)
 
 pub phase-below : (net : Net) (node exit now : ℕ) (lists : List (List Platoon)) (ks : List ℕ) (ss : List Served) (taken amounts : List ℕ) (i : ℕ)
     → AreOfNode net node now lists → (h : IsFilling net node exit now lists ks ss taken amounts i) → i < length ks → get_or ks i 0 < length lists
 phase-below net node exit now lists ks ss taken amounts i of h lt =
-    let at : IsAt net node now lists h.left h.head ks ss i no_served = serving-at net node now lists h.left h.head ks ss i no_served of h.servings lt in
+    let at : IsAt net node now h.plan lists h.left h.head ks ss i no_served = serving-at net node now h.plan lists h.left h.head ks ss i no_served of h.servings lt in
     at.next.phase
 
 pub found-fit : (net : Net) (node exit now : ℕ) (lists : List (List Platoon)) (ks : List ℕ) (ss : List Served) (taken amounts : List ℕ) (i : ℕ) (p : Platoon)
     → AreOfNode net node now lists → (h : IsFilling net node exit now lists ks ss taken amounts i) → i < length ks → IsNetwork net → node < length net.node_names
     → p ≡ next_platoon lists h.left (get_or ks i 0) → IsFitPlatoon net p
 found-fit net node exit now lists ks ss taken amounts i p of h lt net_is there e =
-    let at : IsAt net node now lists h.left h.head ks ss i no_served = serving-at net node now lists h.left h.head ks ss i no_served of h.servings lt in
+    let at : IsAt net node now h.plan lists h.left h.head ks ss i no_served = serving-at net node now h.plan lists h.left h.head ks ss i no_served of h.servings lt in
     let P : Platoon → Type 0 = IsFitPlatoon net in
     subst P (sym e) (fit-platoon net node now (get_or ks i 0) (next_platoon lists h.left (get_or ks i 0)) net_is there (omega (arith, of.count, at.next.phase)) at.next.platoon)
 
@@ -431,5 +434,5 @@ pub clear-after : (net : Net) (node exit now : ℕ) (lists : List (List Platoon)
     → AreOfNode net node now lists → (h : IsFilling net node exit now lists ks ss taken amounts i) → i < length ks → travel ≡ (link_at net exit).travel
     → (get_or ss i no_served).start + travel - now ≤ k → get_or amounts k 0 ≡ 0
 clear-after net node exit now lists ks ss taken amounts i k travel of h lt e le =
-    let at : IsAt net node now lists h.left h.head ks ss i no_served = serving-at net node now lists h.left h.head ks ss i no_served of h.servings lt in
+    let at : IsAt net node now h.plan lists h.left h.head ks ss i no_served = serving-at net node now h.plan lists h.left h.head ks ss i no_served of h.servings lt in
     h.clear k (omega (arith, at.next.times.later))

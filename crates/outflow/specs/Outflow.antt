@@ -16,9 +16,10 @@ use Rattle.clusters.specs.Platoons.{platoons_at}
 use Rattle.clusters.specs.Sound.{cluster_lists}
 use Rattle.clusters.specs.Windows.{counts_of}
 
--- These are the servings of these phases one after another, from some head: each is of the next cluster of its phase. It holds
--- of the servings of a feasible sequence, and of none at all.
-pub record AreServed (plan : List Phase) (lists : List (List Platoon)) (phases : List ℕ) (served : List Served) : Type 0 where
+-- These are the servings of these phases one after another, by some plan and from some head: each is of the next cluster of its phase.
+-- It holds of the servings of a feasible sequence, and of none at all.
+pub record AreServed (lists : List (List Platoon)) (phases : List ℕ) (served : List Served) : Type 0 where
+  pub plan : List Phase
   pub head : Head
   pub servings : AreNextServings plan (cluster_lists lists) (counts_of lists) head phases served
 

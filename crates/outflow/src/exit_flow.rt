@@ -1,7 +1,6 @@
 //! What comes to the end of an exit link, second by second.
 ghost use Rattle.std.specs.Prelude.{◌≡◌, ◌+◌, ◌-◌, ◌<◌, ◌≤◌, ℕ, All, length, replicate, slice_get, slice_index, option_copied, sum_by};
 ghost use Rattle.net_parts.specs.Limits.{most_sat, most_seconds};
-ghost use Rattle.net_parts.specs.Outline.{plan_at};
 ghost use Rattle.road_net.specs.Joins.{part_between, share_of};
 ghost use Rattle.clusters.specs.Sound.{AreOfNode};
 ghost use Rattle.clusters.specs.Windows.{counts_of};
@@ -28,8 +27,7 @@ pub(crate) fn fill_exit_flow(
     requires now { now ≤ most_seconds }
     requires exit { exit < length net.now.link_names }
     requires platoons { AreOfNode net.now node now window.now.lists }
-    requires served { AreServed (plan_at net.now node) window.now.lists servings.now.phases.now
-        servings.now.served.now }
+    requires served { AreServed window.now.lists servings.now.phases.now servings.now.served.now }
     ensures { AreArriving net.now exit now (departures window.now.lists (counts_of window.now.lists)
         servings.now.phases.now servings.now.served.now) amounts.new }
 {

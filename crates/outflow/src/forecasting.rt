@@ -4,7 +4,7 @@ ghost use Rattle.std.specs.List.{range_with_len};
 ghost use Rattle.net_parts.specs.Limits.{most_look, most_seconds};
 ghost use Rattle.clusters.specs.Sound.{AreOfNode};
 ghost use Rattle.clusters.specs.Windows.{counts_of};
-ghost use Rattle.net_parts.specs.Outline.{link_at, plan_at};
+ghost use Rattle.net_parts.specs.Outline.{link_at};
 ghost use Rattle.outflow.specs.Outflow.{AreServed, departures, told_forecast, positive_rows};
 ghost use Rattle.road_net.specs.Network.{exit_links};
 
@@ -41,7 +41,7 @@ pub fn forecast(
     requires now { now ≤ most_seconds }
     requires exit { Contains (exit_links net.now node) exit }
     requires platoons { AreOfNode net.now node now w.now.lists }
-    requires served { AreServed (plan_at net.now node) w.now.lists phases.now served.now }
+    requires served { AreServed w.now.lists phases.now served.now }
     ensures value { IfOk result (λ forecast. forecast ≡ told_forecast net.now exit now
         (departures w.now.lists (counts_of w.now.lists) phases.now served.now)) }
     ensures later { IfOk result (λ forecast. All (λ row. now + (link_at net.now exit).travel ≤ row.second) forecast) }

@@ -6,9 +6,10 @@ use Rattle.clusters.specs.Sound.{ArePlannable, cluster_lists, clusters_of}
 use Rattle.control_flow.specs.Timelines.{AreServings, rotation_of}
 use Rattle.control_flow.specs.declared.greens.Green.{Green}
 use Rattle.control_flow.proofs.SequenceLaws.{next-servings}
-use Rattle.intersection_actor.specs.Commits.{Commitment, IsCommit, line_for, phases_of}
+use Rattle.intersection_actor.specs.Commits.{Commitment, IsCommit, line_for, phases_of, round_plan}
 use Rattle.intersection_actor.specs.Rounds.{first_head}
 use Rattle.intersection_actor.proofs.ArrivalLaws.{window-soon}
+use Rattle.intersection_actor.proofs.RecallLaws.{head-round, lawful-round, length-round, plan-round}
 use Rattle.intersection_actor.proofs.ServedLaws.{greens-by, schedule-made}
 use Rattle.net_parts.specs.Numbers.{Net}
 use Rattle.net_parts.specs.Outline.{plan_at}
@@ -51,22 +52,35 @@ module _ (net : Net) (network : IsNetwork net) (node : ℕ) (below : node < leng
     ready : ArePlannable (cluster_lists c.window.lists)
     ready = plannable c.platoons c.window is.problem.taken net network node below c.head sensed early heard is.problem.expected
 
-    each : length (cluster_lists c.window.lists) ≡ length (plan_at net node)
-    each = length-map c.window.lists clusters_of ∙ window-count c.platoons c.window is.problem.taken net network node below c.head sensed early heard is.problem.expected
+    -- the phases of the round
+    abbrev phases : List Phase
+    phases = round_plan net node sensed
 
-    instance_is : IsInstance (record { plan = plan_at net node; head = c.head; lists = cluster_lists c.window.lists })
-    instance_is = record { plan = plan; head = soon-head.is; since = soon-head.since; lists = each; clusters = ready.clusters; spaced = ready.spaced; few = ready.few; orders = ready.orders }
+    phases-plan : IsPlan phases
+    phases-plan = plan-round net node sensed plan
 
-    served-next : AreNextServings (plan_at net node) (cluster_lists c.window.lists) (counts_of (cluster_lists c.window.lists)) c.head (phases_of c.answer) c.served
+    phases-head : IsSoonHead phases c.head
+    phases-head = record { is = head-round net node sensed c.head soon-head.is; since = soon-head.since; reach = soon-head.reach }
+
+    each : length (cluster_lists c.window.lists) ≡ length phases
+    each =
+        length-map c.window.lists clusters_of ∙ window-count c.platoons c.window is.problem.taken net network node below c.head sensed early heard is.problem.expected
+        ∙ sym (length-round net node sensed)
+
+    instance_is : IsInstance (record { plan = phases; head = c.head; lists = cluster_lists c.window.lists })
+    instance_is = record { plan = phases-plan; head = phases-head.is; since = soon-head.since; lists = each; clusters = ready.clusters; spaced = ready.spaced; few = ready.few; orders = ready.orders }
+
+    served-next : AreNextServings phases (cluster_lists c.window.lists) (counts_of (cluster_lists c.window.lists)) c.head (phases_of c.answer) c.served
     served-next = subst (λ (p : Problem). AreNextServings p.plan p.lists (counts_of p.lists) p.head (phases_of c.answer) c.served) is.problem.is
         (schedule-made c.problem c.answer (phases_of c.answer) c.served (subst IsInstance (sym is.problem.is) instance_is) is.answer refl is.served).next
 
     next : IsNext (plan_at net node) c.head c.next
     next =
-        let servings = next-servings (plan_at net node) (cluster_lists c.window.lists) plan each ready.clusters (phases_of c.answer) (counts_of (cluster_lists c.window.lists)) c.head c.served served-next in
-        let greens = greens-by (plan_at net node) (cluster_lists c.window.lists) plan each ready.clusters (sensed.now + net.run.look) (window-soon net node c.head sensed heard c.platoons c.window is.problem.expected is.problem.taken)
-        (phases_of c.answer) (counts_of (cluster_lists c.window.lists)) c.head c.served soon-head.is (omega (arith, look)) served-next in
-        subst (IsNext (plan_at net node) c.head) (sym is.next) (next-line (plan_at net node) c.head c.answer c.served (sensed.now + net.run.look) plan soon-head (omega (arith, look)) servings greens)
+        let servings = next-servings phases (cluster_lists c.window.lists) phases-plan each ready.clusters (phases_of c.answer) (counts_of (cluster_lists c.window.lists)) c.head c.served served-next in
+        let greens = greens-by phases (cluster_lists c.window.lists) phases-plan each ready.clusters (sensed.now + net.run.look) (window-soon net node c.head sensed heard c.platoons c.window is.problem.expected is.problem.taken)
+        (phases_of c.answer) (counts_of (cluster_lists c.window.lists)) c.head c.served phases-head.is (omega (arith, look)) served-next in
+        let own : IsNext phases c.head c.next = subst (IsNext phases c.head) (sym is.next) (next-line phases c.head c.answer c.served (sensed.now + net.run.look) phases-plan phases-head (omega (arith, look)) servings greens) in
+        record { line = record { lawful = lawful-round net node sensed c.next own.line.lawful; begins = own.line.begins }; goes = own.goes }
 
     pub keeps : KeepsLine (plan_at net node) old sensed.now c.line
     keeps = subst (KeepsLine (plan_at net node) old sensed.now) (sym is.line) (spliced-keeps (plan_at net node) old sensed.now c.head c.next plan line is.problem.at next)

@@ -1,0 +1,96 @@
+-- What a plan in which phases are recalled has in common with the plan itself.
+use Rattle.std.proofs.Common.{◌≡◌, ℕ, suc, ◌+◌, ◌-◌, ◌<◌, ◌≤◌, Bool, not, cond, ltb, List, ◌++◌, length, All, sym, ap, subst, ◌∙◌, inl, inr, arith, true≢false, count_by, false, true, [], ◌∷◌}
+use Rattle.std.specs.List.{range_with_len}
+use Rattle.std.proofs.lemmas.Bool.{and_left, and_parts, cases_lt, cond_both, not-true}
+use Rattle.std.proofs.lemmas.List.Sums.{sum_by-cons}
+use Rattle.std.proofs.lemmas.List.{get_or_past}
+use Rattle.std.proofs.lemmas.List.Elements.{All-from_get_or, All-get_or, All-weaker}
+use Rattle.std.proofs.lemmas.List.FromFn.{get_or-map-range_with_len, length-map-range_with_len}
+use Rattle.phase_plan.proofs.RingLaws.{phase-bounds}
+use Rattle.phase_plan.specs.Phases.{IsMarkedAt, IsPhase, IsPlan, is_unmarked, between, no_phase, phase_at}
+use Rattle.phase_plan.specs.declared.Phase.{Phase}
+use Rattle.switch_rules.specs.Serving.{IsHead}
+use Rattle.switch_rules.specs.declared.Head.{Head}
+use Rattle.control_flow.specs.Greens.{Follows, IsGreen, IsLawful, no_green, row_at}
+use Rattle.control_flow.specs.Recalls.{recalled, recalled_phase}
+use Rattle.control_flow.specs.declared.greens.Green.{Green}
+
+module _ (plan : List Phase) (calls : ℕ → Bool) where
+  pub length-recalled : length (recalled plan calls) ≡ length plan
+  length-recalled = length-map-range_with_len (recalled_phase plan calls) 0 (length plan)
+
+  pub recalled-at : (k : ℕ) → k < length plan → phase_at (recalled plan calls) k ≡ recalled_phase plan calls k
+  recalled-at k h = get_or-map-range_with_len (recalled_phase plan calls) 0 (length plan) k k no_phase h (omega arith)
+
+  same-between : (s j : ℕ) → between (recalled plan calls) s j ≡ between plan s j
+  same-between s j = ap (λ (n : ℕ). cond (ltb s j) (range_with_len (s + 1) (j - (s + 1))) (range_with_len (s + 1) (n - (s + 1)) ++ range_with_len 0 j)) length-recalled
+
+  green-still : (row : Green) → IsGreen (recalled plan calls) row → IsGreen plan row
+  green-still row green =
+      let below : row.phase < length plan = omega (arith, green.phase, length-recalled) in
+      let same = recalled-at row.phase below in
+      record {
+        phase = below;
+        least = omega (arith, green.least, ap (λ (q : Phase). q.least) same);
+        greatest = omega (arith, green.greatest, ap (λ (q : Phase). q.greatest) same);
+      }
+
+  marked-still : (k : ℕ) → IsMarkedAt (recalled plan calls) k → IsMarkedAt plan k
+  marked-still k marked = elim (cases_lt k (length plan)) [
+    | inl below ↦ (and_parts (phase_at plan k).skip (not (calls k)) (sym (ap (λ (q : Phase). q.skip) (recalled-at k below)) ∙ marked)).0
+    | inr past ↦
+        let none : phase_at (recalled plan calls) k ≡ no_phase = get_or_past (recalled plan calls) k no_phase (omega (arith, past, length-recalled)) in
+        absurd (true≢false (sym marked ∙ ap (λ (q : Phase). q.skip) none))
+  ]
+
+  follows-still : (row next : Green) → Follows (recalled plan calls) row next → IsGreen (recalled plan calls) row → Follows plan row next
+  follows-still row next follows green =
+      let below : row.phase < length plan = omega (arith, green.phase, length-recalled) in
+      let same = recalled-at row.phase below in
+      record {
+        passed = All-weaker (IsMarkedAt (recalled plan calls)) (IsMarkedAt plan) marked-still (between plan row.phase next.phase) (subst (All (IsMarkedAt (recalled plan calls))) (same-between row.phase next.phase) follows.passed);
+        begins = omega (arith, follows.begins, ap (λ (q : Phase). q.yellow) same, ap (λ (q : Phase). q.clear) same);
+      }
+
+  -- what is lawful with fewer marks is lawful
+  pub lawful-still : (rows : List Green) → IsLawful (recalled plan calls) rows → IsLawful plan rows
+  lawful-still rows lawful = record {
+    greens = All-weaker (IsGreen (recalled plan calls)) (IsGreen plan) green-still rows lawful.greens;
+    order = λ k h. follows-still (row_at rows k) (row_at rows (k + 1)) (lawful.order k h) (All-get_or (IsGreen (recalled plan calls)) rows k no_green (omega (arith, h)) lawful.greens);
+  }
+
+  -- a head of the plan is one of it
+  pub head-still : (head : Head) → IsHead plan head → IsHead (recalled plan calls) head
+  head-still head h = record {
+    phase = omega (arith, h.phase, length-recalled);
+    begun = h.begun;
+    within = omega (arith, h.within, ap (λ (q : Phase). q.greatest) (recalled-at head.phase h.phase));
+  }
+
+-- more unmarked phases count for more
+count-more : (xs ys : List Phase) → length xs ≡ length ys → ((k : ℕ) → k < length xs → is_unmarked (phase_at xs k) ≡ true → is_unmarked (phase_at ys k) ≡ true) → count_by is_unmarked xs ≤ count_by is_unmarked ys
+count-more [] ys e more = omega arith
+count-more (x ∷ xs) [] e more = absurd (omega (arith, e))
+count-more (x ∷ xs) (y ∷ ys) e more =
+    let others = count-more xs ys (omega (arith, e)) (λ k h. more (suc k) (omega (arith, h))) in
+    let one : cond (is_unmarked x) 1 0 ≤ cond (is_unmarked y) 1 0 = cond_both (is_unmarked x) 1 0 (λ n. n ≤ cond (is_unmarked y) 1 0) (λ t. (let f = ap {B = ℕ} (λ b. cond b 1 0) (more 0 (omega arith) t) in omega (arith, f))) (λ f. omega arith) in
+    omega (arith, others, one, sum_by-cons (λ z. cond (is_unmarked z) 1 0) x xs, sum_by-cons (λ z. cond (is_unmarked z) 1 0) y ys)
+
+-- with fewer marks a plan is a plan
+pub plan-still : (plan : List Phase) (calls : ℕ → Bool) → IsPlan plan → IsPlan (recalled plan calls)
+plan-still plan calls p = record {
+  count = (omega (arith, p.count.0, length-recalled plan calls), omega (arith, p.count.1, length-recalled plan calls));
+  phases = All-from_get_or IsPhase (recalled plan calls) no_phase (λ k h. each k (omega (arith, h, length-recalled plan calls)));
+  ring = (let more = count-more plan (recalled plan calls) (sym (length-recalled plan calls)) unmarks in omega (arith, p.ring, more));
+}
+  where
+    each : (k : ℕ) → k < length plan → IsPhase (phase_at (recalled plan calls) k)
+    each k h =
+        let q : IsPhase (phase_at plan k) = phase-bounds plan k p h in
+        let free : IsPhase (recalled_phase plan calls k) = record { least = q.least; greatest = q.greatest; yellow = q.yellow; clear = q.clear; loss = q.loss; wait = q.wait } in
+        subst IsPhase (sym (recalled-at plan calls k h)) free
+
+    unmarks : (k : ℕ) → k < length plan → is_unmarked (phase_at plan k) ≡ true → is_unmarked (phase_at (recalled plan calls) k) ≡ true
+    unmarks k h t =
+        let none : (phase_at plan k).skip ≡ false = not-true (phase_at plan k).skip t in
+        ap is_unmarked (recalled-at plan calls k h) ∙ ap not (and_left (phase_at plan k).skip (not (calls k)) none)
