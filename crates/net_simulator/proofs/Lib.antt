@@ -12,4 +12,5 @@ pub mod Outside
 pub mod Passing
 pub mod Seeing
 pub mod AtNodes
+pub mod ExtraGreenLaws
 mod WorkedRow

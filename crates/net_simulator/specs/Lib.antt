@@ -8,3 +8,4 @@ pub mod Counts
 pub mod Worlds
 pub mod Senses
 pub mod Shown
+pub mod Discharging

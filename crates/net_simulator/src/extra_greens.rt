@@ -1,0 +1,12 @@
+//! What further greens do for a link.
+ghost use Rattle.std.specs.Prelude.{ℕ, ◌≤◌, Bool};
+ghost use Rattle.net_simulator.specs.Discharging.{AreWays};
+
+/// Further greens beside the home of a link never lengthen its queue: whatever reaches its end, no less has left it by each second by all
+/// its greens than by its home alone.
+///
+/// docs/RULES.md, "World".
+pub fn law_of_extra_greens()
+    ensures { (home all : ℕ → Bool) (loss losses : ℕ → ℕ) (most sat : ℕ) (came left more : ℕ → ℕ)
+        → AreWays home all loss losses most sat came left more → (n : ℕ) → left n ≤ more n }
+{}
