@@ -23,7 +23,7 @@ end-below net network l = elim (cases_lt l (length net.links)) [
 
 -- of a sign only its green counts
 
-may_in : Net → (ℕ → ℕ → Cumulative) → ℕ → ℕ → ℕ → Option (ℕ × ℕ) → Bool
+abbrev may_in : Net → (ℕ → ℕ → Cumulative) → ℕ → ℕ → ℕ → Option (ℕ × ℕ) → Bool
 may_in net past x l node None = false
 may_in net past x l node (Some green) = may_go net past x l node (On green.0 green.1)
 
