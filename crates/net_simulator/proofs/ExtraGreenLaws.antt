@@ -47,12 +47,12 @@ green-run on y (suc d) h =
 either : (on : ℕ → Bool) (loss : ℕ → ℕ) (sat : ℕ) (came left : ℕ → ℕ) → Discharges on loss sat came left → (x : ℕ) → (left (suc x) ≡ left x) ⊎ (left (suc x) ≡ left x + min sat (came (suc x) - left x))
 either on loss sat came left m x = elim (cases_Bool (on x)) [
   | inl is ↦ elim (cases_lt (green_for on x) (loss x)) [
-      | inl early ↦ elim (cases_lt (left (begun on x)) (came (begun on x))) [
-          | inl some ↦ inl (m.lost x is early some)
-          | inr none ↦ inr (m.free x is none)
-        ]
-      | inr late ↦ inr (m.late x is late)
+    | inl early ↦ elim (cases_lt (left (begun on x)) (came (begun on x))) [
+      | inl some ↦ inl (m.lost x is early some)
+      | inr none ↦ inr (m.free x is none)
     ]
+    | inr late ↦ inr (m.late x is late)
+  ]
   | inr isnt ↦ inl (m.rests x isnt)
 ]
 
@@ -86,17 +86,17 @@ stands home all loss losses most sat came left more w b g run short queue (suc k
       let after : left (suc (k + b)) ≡ left (k + b) → left (suc (k + b)) < came (suc (k + b)) = λ e. omega (arith, e, here, w.rises (k + b)) in
       subst (λ (d : ℕ). left d < came d) same
       (elim (cases_Bool (home (k + b))) [
-          | inr isnt ↦ after (w.by_home.rests (k + b) isnt)
-          | inl is ↦
-              let split : (g - k) + (k + b) ≡ g + b = omega (arith, k_by) in
-              let long : green_for all ((g - k) + (k + b)) ≡ g = ap (green_for all) split ∙ run in
-              let lasted = green-run all (k + b) (g - k) (omega (arith, long)) in
-              let shorter = green-within home all w.within (k + b) in
-              let by_k : green_for home (k + b) ≤ k = omega (arith, long, lasted, shorter, k_by) in
-              let since : (k - green_for home (k + b)) + b ≡ begun home (k + b) = omega (arith, by_k) in
-              let queued = stands home all loss losses most sat came left more w b g run short queue k (k - green_for home (k + b)) (omega arith) (omega arith) in
-              after (w.by_home.lost (k + b) is (omega (arith, by_k, k_by, short, w.home_loss (k + b) is)) (subst (λ (d : ℕ). left d < came d) since queued))
-        ])
+        | inr isnt ↦ after (w.by_home.rests (k + b) isnt)
+        | inl is ↦
+            let split : (g - k) + (k + b) ≡ g + b = omega (arith, k_by) in
+            let long : green_for all ((g - k) + (k + b)) ≡ g = ap (green_for all) split ∙ run in
+            let lasted = green-run all (k + b) (g - k) (omega (arith, long)) in
+            let shorter = green-within home all w.within (k + b) in
+            let by_k : green_for home (k + b) ≤ k = omega (arith, long, lasted, shorter, k_by) in
+            let since : (k - green_for home (k + b)) + b ≡ begun home (k + b) = omega (arith, by_k) in
+            let queued = stands home all loss losses most sat came left more w b g run short queue k (k - green_for home (k + b)) (omega arith) (omega arith) in
+            after (w.by_home.lost (k + b) is (omega (arith, by_k, k_by, short, w.home_loss (k + b) is)) (subst (λ (d : ℕ). left d < came d) since queued))
+      ])
 ]
 
 -- a lost second of all ways is lost by the home alone
@@ -127,35 +127,35 @@ helps home all loss losses most sat came left more w (suc n) m h = elim (cases_l
       let grow = grows all losses sat came more w.by_all n in
       let still : left (suc n) ≡ left n → left (suc n) ≤ more (suc n) = λ e. omega (arith, e, here, grow) in
       let flows : more (suc n) ≡ more n + min sat (came (suc n) - more n) → left (suc n) ≤ more (suc n) = λ e.
-          elim (either home loss sat came left w.by_home n) [
-            | inl rests ↦ still rests
-            | inr moves ↦
-                let first = min-le_left sat (came (suc n) - left n) in
-                let second = min-le_right sat (came (suc n) - left n) in
-                elim (cases_lt sat (came (suc n) - more n)) [
-                  | inl much ↦
-                      let least : sat ≤ min sat (came (suc n) - more n) = le-min (omega arith) (omega (arith, much)) in
-                      omega (arith, e, moves, first, least, here)
-                  | inr little ↦
-                      let least : came (suc n) - more n ≤ min sat (came (suc n) - more n) = le-min (omega (arith, little)) (omega arith) in
-                      omega (arith, e, moves, second, least, here, by, rise)
-                ]
-          ] in
+      elim (either home loss sat came left w.by_home n) [
+        | inl rests ↦ still rests
+        | inr moves ↦
+            let first = min-le_left sat (came (suc n) - left n) in
+            let second = min-le_right sat (came (suc n) - left n) in
+            elim (cases_lt sat (came (suc n) - more n)) [
+              | inl much ↦
+                  let least : sat ≤ min sat (came (suc n) - more n) = le-min (omega arith) (omega (arith, much)) in
+                  omega (arith, e, moves, first, least, here)
+              | inr little ↦
+                  let least : came (suc n) - more n ≤ min sat (came (suc n) - more n) = le-min (omega (arith, little)) (omega arith) in
+                  omega (arith, e, moves, second, least, here, by, rise)
+            ]
+      ] in
       subst (λ (k : ℕ). left k ≤ more k) same
       (elim (cases_Bool (home n)) [
-          | inr isnt ↦ still (w.by_home.rests n isnt)
-          | inl is ↦
-              let on = w.within n is in
-              elim (cases_lt (green_for all n) most) [
-                | inr late ↦ flows (w.by_all.late n on (omega (arith, late, w.same_loss n is)))
-                | inl early ↦ elim (cases_lt (more (begun all n)) (came (begun all n))) [
-                    | inr none ↦ flows (w.by_all.free n on none)
-                    | inl some ↦
-                        let before = helps home all loss losses most sat came left more w n (begun all n) (omega arith) in
-                        still (lost-too home all loss losses most sat came left more w n is early (omega (arith, before, some)))
-                  ]
+        | inr isnt ↦ still (w.by_home.rests n isnt)
+        | inl is ↦
+            let on = w.within n is in
+            elim (cases_lt (green_for all n) most) [
+              | inr late ↦ flows (w.by_all.late n on (omega (arith, late, w.same_loss n is)))
+              | inl early ↦ elim (cases_lt (more (begun all n)) (came (begun all n))) [
+                | inr none ↦ flows (w.by_all.free n on none)
+                | inl some ↦
+                    let before = helps home all loss losses most sat came left more w n (begun all n) (omega arith) in
+                    still (lost-too home all loss losses most sat came left more w n is early (omega (arith, before, some)))
               ]
-        ])
+            ]
+      ])
 ]
 
 pub extra-greens-help : (home all : ℕ → Bool) (loss losses : ℕ → ℕ) (most sat : ℕ) (came left more : ℕ → ℕ) → AreWays home all loss losses most sat came left more → (n : ℕ) → left n ≤ more n

@@ -47,9 +47,9 @@ sign-begun before [] x = tt
 sign-begun before (r ∷ rs) x = elim (cases_lt x r.from) [
   | inl early ↦ rw (before-row before r rs x early) (change-begun before r.phase x)
   | inr begun ↦ elim (cases_lt x r.to) [
-      | inl within ↦ rw (within-row before r rs x begun within) begun
-      | inr over ↦ rw (after-row before r rs x begun over) (sign-begun (Some r.phase) rs x)
-    ]
+    | inl within ↦ rw (within-row before r rs x begun within) begun
+    | inr over ↦ rw (after-row before r rs x begun over) (sign-begun (Some r.phase) rs x)
+  ]
 ]
 
 pub begun-by : (signs : List Sign) (nodes : ℕ) (lines : ℕ → List Green) (x : ℕ) → ((n : ℕ) → n < nodes → slice_index_or signs n Dark ≡ sign_at (lines n) x)

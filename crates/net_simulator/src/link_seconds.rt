@@ -34,14 +34,7 @@ pub fn look<T: Lights>(signs: &mut [Sign], net: &Network, lights: &T, second: u3
 ///
 /// docs/RULES.md, "World".
 #[inline]
-pub fn is_open(
-    net: &Network,
-    waits: &[u32],
-    second: u32,
-    l: u32,
-    node: u32,
-    sign: Sign,
-) -> bool
+pub fn is_open(net: &Network, waits: &[u32], second: u32, l: u32, node: u32, sign: Sign) -> bool
     requires link { l < length net.now.link_names }
     requires node { (link_at net.now l).to ≡ Some node }
     requires waits { length waits.now ≡ length net.now.link_names * kept_seconds }

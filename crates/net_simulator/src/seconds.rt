@@ -52,14 +52,7 @@ pub(crate) fn arrive(recent: &mut [u32], links: u32, arrivals: &Arrivals, second
 }
 
 /// What link `l` discharges in this second of what waits at its end.
-fn goes(
-    net: &Network,
-    waits: &[u32],
-    second: u32,
-    l: u32,
-    waiting: u32,
-    signs: &[Sign],
-) -> u32
+fn goes(net: &Network, waits: &[u32], second: u32, l: u32, waiting: u32, signs: &[Sign]) -> u32
     requires link { l < length net.now.link_names }
     requires signs { length signs.now ≡ length net.now.node_names }
     requires begun { (n : ℕ) → n < length net.now.node_names

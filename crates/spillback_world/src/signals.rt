@@ -27,13 +27,7 @@ fn is_served(net: &Network, waits: &[u32], signs: &[Sign], second: u32, l: u32) 
 }
 
 /// Tells of each link whether it ends at a node and may discharge in this second.
-pub(crate) fn serve(
-    served: &mut [bool],
-    net: &Network,
-    waits: &[u32],
-    signs: &[Sign],
-    second: u32,
-)
+pub(crate) fn serve(served: &mut [bool], net: &Network, waits: &[u32], signs: &[Sign], second: u32)
     requires served { length served.old ≡ length net.now.link_names }
     requires waits { length waits.now ≡ length net.now.link_names * kept_seconds }
     requires signs { length signs.now ≡ length net.now.node_names }
