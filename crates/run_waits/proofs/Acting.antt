@@ -1,7 +1,7 @@
 -- Each round under actuated control continues the lines of the nodes with yellow and all-red alone.
-use Rattle.std.proofs.Common.{◌≡◌, ℕ, zero, suc, ◌+◌, ◌*◌, ◌<◌, ◌≤◌, List, Option, length, refl, ap, subst, ◌∙◌, arith, suc-mul}
+use Rattle.std.proofs.Common.{◌≡◌, ℕ, zero, suc, ◌+◌, ◌*◌, ◌<◌, ◌≤◌, List, length, refl, ap, subst, ◌∙◌, arith, suc-mul}
 use Rattle.std.proofs.lemmas.Nat.{div_below, mul-le}
-use Rattle.actuated.specs.ActRuns.{AllAct, IsNextLine, calls_at, first_line, past_by, shown_in}
+use Rattle.actuated.specs.ActRuns.{AllAct, IsNextLine, calls_at, first_line, cumulative_by, shown_in}
 use Rattle.actuated.specs.ActSteps.{act_rounds, act_step}
 use Rattle.actuated.specs.Calls.{act_line, held_until}
 use Rattle.actuated.proofs.ActStepLaws.{act-rounds, begins-by}
@@ -11,11 +11,12 @@ use Rattle.control_flow.proofs.SpliceLaws.{continued}
 use Rattle.control_flow.proofs.TurningLaws.{passes-called, turned-line}
 use Rattle.control_flow.specs.Timelines.{first_head, stops_at}
 use Rattle.control_flow.specs.declared.greens.Green.{Green}
+use Rattle.control_flow.specs.declared.greens.Sign.{Sign}
 use Rattle.net_parts.specs.Numbers.{Net}
 use Rattle.net_parts.specs.Outline.{plan_at}
-use Rattle.net_simulator.specs.Flow.{Cumulative, past_of}
+use Rattle.net_simulator.specs.Flow.{Cumulative, cumulative_under}
 use Rattle.net_simulator.specs.Sums.{end_of_run}
-use Rattle.net_simulator.specs.Worlds.{standing_by}
+use Rattle.net_simulator.specs.Worlds.{signs_by}
 use Rattle.net_simulator.proofs.AtNodes.{past-at-nodes}
 use Rattle.phase_plan.specs.Phases.{IsPlan, is_unmarked_at}
 use Rattle.road_net.specs.Network.{IsNetwork}
@@ -31,7 +32,7 @@ use Rattle.waits.proofs.Intergreens.{turned-intergreens}
 use Rattle.waits.proofs.Rounds.{kept}
 use Rattle.run_waits.proofs.Splices.{splice-begins}
 
-module _ (net : Net) (network : IsNetwork net) (under : (ℕ → ℕ → Option (ℕ × ℕ)) → ℕ → ℕ → ℕ → Cumulative) (made : ℕ → ℕ → List Green) (acts : AllAct net under made (act_rounds net)) (node : ℕ) (below : node < length net.node_names) where
+module _ (net : Net) (network : IsNetwork net) (under : (ℕ → ℕ → Sign) → ℕ → ℕ → ℕ → Cumulative) (made : ℕ → ℕ → List Green) (acts : AllAct net under made (act_rounds net)) (node : ℕ) (below : node < length net.node_names) where
   plan : IsPlan (plan_at net node)
   plan = plan-is net network node below
 
@@ -90,7 +91,7 @@ module _ (net : Net) (network : IsNetwork net) (under : (ℕ → ℕ → Option 
           omega (arith, late, whole, suc-mul r (act_step net), (act-rounds net network).within, network.outline.run.within)
 
 -- the last lines cover the run
-pub covers : (net : Net) → IsNetwork net → (under : (ℕ → ℕ → Option (ℕ × ℕ)) → ℕ → ℕ → ℕ → Cumulative) (made : ℕ → ℕ → List Green) → AllAct net under made (act_rounds net)
+pub covers : (net : Net) → IsNetwork net → (under : (ℕ → ℕ → Sign) → ℕ → ℕ → ℕ → Cumulative) (made : ℕ → ℕ → List Green) → AllAct net under made (act_rounds net)
     → AreWholeLines net (intergreens_of net 0) (end_of_run net) (line_before (first_line net) made (act_rounds net))
 covers net network under made acts node below =
     let last = last-line net network under made acts node below in
@@ -102,20 +103,20 @@ covers net network under made acts node below =
     }
 
 -- and the world without a store moved by them
-module _ (net : Net) (network : IsNetwork net) (arriving : ℕ → ℕ → ℕ) (made : ℕ → ℕ → List Green) (acts : AllAct net (past_of net arriving) made (act_rounds net)) where
+module _ (net : Net) (network : IsNetwork net) (arriving : ℕ → ℕ → ℕ) (made : ℕ → ℕ → List Green) (acts : AllAct net (cumulative_under net arriving) made (act_rounds net)) where
   keep : AllKeepEvery net (act_step net) (line_before (first_line net) made) (act_rounds net)
   keep = all-keep-every net (act_step net) (line_before (first_line net) made) (act_rounds net) (begins-by net network) (first-is-line net network)
-      (λ r n less inside soon is. next-keeps net network n inside (past_of net arriving (shown_in net made) (r * act_step net)) (r * act_step net) (line_before (first_line net) made r n) (made r n) soon is (acts r n less inside))
+      (λ r n less inside soon is. next-keeps net network n inside (cumulative_under net arriving (shown_in net made) (r * act_step net)) (r * act_step net) (line_before (first_line net) made r n) (made r n) soon is (acts r n less inside))
 
-  same-past : past_of net arriving (standing_by (line_before (first_line net) made (act_rounds net))) (end_of_run net) ≡ past_by net arriving made
-  same-past = past-at-nodes net network arriving (standing_by (line_before (first_line net) made (act_rounds net))) (shown_in net made) (end_of_run net)
+  same-past : cumulative_under net arriving (signs_by (line_before (first_line net) made (act_rounds net))) (end_of_run net) ≡ cumulative_by net arriving made
+  same-past = past-at-nodes net network arriving (signs_by (line_before (first_line net) made (act_rounds net))) (shown_in net made) (end_of_run net)
       (λ x n less inside. shows-every net (act_step net) (act-rounds net network).some (line_before (first_line net) made) (act_rounds net) keep (act_rounds net) (omega arith) x n inside
       (div_below x (act_step net) (act_rounds net) (act-rounds net network).some (omega (arith, less, (act-rounds net network).whole))))
 
-  pub run-waits : AreWaitsWithin net (wait_bounds net (intergreens_of net 0)) (past_by net arriving made) (end_of_run net)
+  pub run-waits : AreWaitsWithin net (wait_bounds net (intergreens_of net 0)) (cumulative_by net arriving made) (end_of_run net)
   run-waits = subst (λ (past : ℕ → ℕ → Cumulative). AreWaitsWithin net (wait_bounds net (intergreens_of net 0)) past (end_of_run net)) same-past
-      (waits-within net network arriving (line_before (first_line net) made (act_rounds net)) (intergreens_of net 0) (end_of_run net) (covers net network (past_of net arriving) made acts))
+      (waits-within net network arriving (line_before (first_line net) made (act_rounds net)) (intergreens_of net 0) (end_of_run net) (covers net network (cumulative_under net arriving) made acts))
 
-  pub run-empties : AreEmptied net (intergreens_of net 0) (past_by net arriving made) (end_of_run net)
+  pub run-empties : AreEmptied net (intergreens_of net 0) (cumulative_by net arriving made) (end_of_run net)
   run-empties = subst (λ (past : ℕ → ℕ → Cumulative). AreEmptied net (intergreens_of net 0) past (end_of_run net)) same-past
-      (empties net network arriving (line_before (first_line net) made (act_rounds net)) (intergreens_of net 0) (end_of_run net) (covers net network (past_of net arriving) made acts))
+      (empties net network arriving (line_before (first_line net) made (act_rounds net)) (intergreens_of net 0) (end_of_run net) (covers net network (cumulative_under net arriving) made acts))

@@ -1,26 +1,30 @@
 -- Each round of a run continues its nodes' lines within intergreens.
-use Rattle.std.proofs.Common.{◌≡◌, ℕ, zero, suc, ◌+◌, ◌*◌, ◌<◌, ◌≤◌, List, All, length, refl, sym, ap, subst, ◌∙◌, arith, suc-mul}
-use Rattle.std.proofs.lemmas.List.{length-map}
+use Rattle.std.proofs.Common.{◌≡◌, ℕ, zero, suc, ◌+◌, ◌*◌, ◌<◌, ◌≤◌, max, Bool, List, All, Option, Some, None, length, refl, sym, ap, subst, ◌∙◌, inl, inr, arith, suc-mul}
+use Rattle.std.proofs.lemmas.Bool.{cases_lt}
+use Rattle.std.proofs.lemmas.List.{get_or_past, length-map}
 use Rattle.std.proofs.lemmas.Nat.{div_below, mul-le}
 use Rattle.board_model.specs.declared.boards.Heard.{Heard}
 use Rattle.clusters.specs.Sound.{ArePlannable, cluster_lists, clusters_of}
 use Rattle.control_flow.specs.Greens.{IsLawful, end_of, row_at}
+use Rattle.control_flow.specs.Recalls.{recalled}
 use Rattle.control_flow.specs.Timelines.{AreServings}
 use Rattle.control_flow.specs.declared.greens.Green.{Green}
+use Rattle.control_flow.proofs.RecallLaws.{length-recalled, recalled-at}
 use Rattle.control_flow.proofs.SequenceLaws.{next-servings}
 use Rattle.control_flow.proofs.SpliceLaws.{continued, row-of-head}
 use Rattle.control_flow.proofs.MakingLaws.{line_of-line, rotation_of-line}
-use Rattle.intersection_actor.specs.Commits.{Commitment, IsCommit, line_for, phases_of}
+use Rattle.intersection_actor.specs.Commits.{Commitment, IsCommit, is_recalled, line_for, phases_of, plan_by, round_plan}
 use Rattle.intersection_actor.specs.Rounds.{first_head}
 use Rattle.intersection_actor.proofs.ArrivalLaws.{window-soon}
+use Rattle.intersection_actor.proofs.RecallLaws.{head-round, lawful-round, length-round, plan-round}
 use Rattle.intersection_actor.proofs.ServedLaws.{greens-by, schedule-made}
 use Rattle.net_parts.specs.Numbers.{Net}
-use Rattle.net_simulator.specs.Flow.{Cumulative, past_of}
+use Rattle.net_simulator.specs.Flow.{Cumulative, cumulative_under}
 use Rattle.net_simulator.specs.Sums.{end_of_run}
-use Rattle.net_simulator.specs.Worlds.{standing_by}
+use Rattle.net_simulator.specs.Worlds.{signs_by}
 use Rattle.net_simulator.proofs.AtNodes.{past-at-nodes}
 use Rattle.net_parts.specs.Outline.{plan_at}
-use Rattle.phase_plan.specs.Phases.{IsPlan, is_unmarked_at}
+use Rattle.phase_plan.specs.Phases.{IsPlan, is_unmarked_at, no_phase}
 use Rattle.phase_plan.specs.declared.Phase.{Phase}
 use Rattle.road_net.specs.Network.{IsNetwork}
 use Rattle.road_net.specs.declared.senses.Sensed.{Sensed}
@@ -33,7 +37,7 @@ use Rattle.switch_rules.specs.Sequences.{AreNextServings}
 use Rattle.switch_rules.specs.Serving.{IsHead}
 use Rattle.switch_rules.specs.declared.Head.{Head}
 use Rattle.switch_rules.specs.declared.Served.{Served}
-use Rattle.runs.specs.Runs.{AllCommit, arriving_by, line_before, past_by, sensed_in, shown_by}
+use Rattle.runs.specs.Runs.{AllCommit, line_before, cumulative_by, sensed_in, shown_by}
 use Rattle.runs.proofs.Plannable.{plannable, window-count}
 use Rattle.runs.proofs.Keep.{all-keep}
 use Rattle.waits.specs.Discharges.{AreEmptied, AreWaitsWithin, AreWholeLines, intergreens_of, wait_bounds}
@@ -41,7 +45,7 @@ use Rattle.waits.proofs.BoundLaws.{empties, waits-within}
 use Rattle.waits.specs.Rounds.{AreRounds, IsRound}
 use Rattle.waits.specs.Waits.{BeginSoon, AreIntergreensWithin, longest_intergreen}
 use Rattle.run_waits.proofs.Splices.{splice-begins}
-use Rattle.waits.proofs.Intergreens.{line-intergreens, turned-intergreens}
+use Rattle.waits.proofs.Intergreens.{intergreens-same, line-intergreens, turned-intergreens}
 use Rattle.waits.proofs.Rounds.{kept}
 use Rattle.waits.proofs.Soon.{next-soon}
 
@@ -59,6 +63,21 @@ next-ends : (plan : List Phase) (head : Head) (answer : Answer) (served : List S
 next-ends plan head (Plan sequence delay) served until p h reach are = (line_of-line plan sequence served head until p h reach are).end
 next-ends plan head NoPlan served until p h reach are = (rotation_of-line plan head until p h reach).end
 
+-- a phase that is recalled has the intergreen that it had
+module _ (net : Net) (node : ℕ) (sensed : Sensed) (look : ℕ) where
+  intergreen-recalled : (plan : List Phase) (is_recalled : ℕ → Bool) (k : ℕ) → longest_intergreen (recalled plan is_recalled) look k ≡ longest_intergreen plan look k
+  intergreen-recalled plan is_recalled k = elim (cases_lt k (length plan)) [
+    | inl below ↦ ap (λ (p : Phase). max (p.yellow + p.clear) look) (recalled-at plan is_recalled k below)
+    | inr past ↦ ap (λ (p : Phase). max (p.yellow + p.clear) look) (get_or_past (recalled plan is_recalled) k no_phase (omega (arith, past, length-recalled plan is_recalled)) ∙ sym (get_or_past plan k no_phase past))
+  ]
+
+  intergreen-by : (o : Option ℕ) (k : ℕ) → longest_intergreen (plan_by net node sensed o) look k ≡ longest_intergreen (plan_at net node) look k
+  intergreen-by None k = refl
+  intergreen-by (Some recall) k = intergreen-recalled (plan_at net node) (is_recalled net node sensed recall) k
+
+  intergreen-round : (k : ℕ) → longest_intergreen (round_plan net node sensed) look k ≡ longest_intergreen (plan_at net node) look k
+  intergreen-round = intergreen-by net.run.recall
+
 module _ (net : Net) (network : IsNetwork net) (node : ℕ) (below : node < length net.node_names) where
   plan : IsPlan (plan_at net node)
   plan = plan-is net network node below
@@ -73,38 +92,52 @@ module _ (net : Net) (network : IsNetwork net) (node : ℕ) (below : node < leng
     ready : ArePlannable (cluster_lists c.window.lists)
     ready = plannable c.platoons c.window is.problem.taken net network node below c.head sensed early heard is.problem.expected
 
-    each : length (cluster_lists c.window.lists) ≡ length (plan_at net node)
-    each = length-map c.window.lists clusters_of ∙ window-count c.platoons c.window is.problem.taken net network node below c.head sensed early heard is.problem.expected
+    -- the phases of the round
+    abbrev phases : List Phase
+    phases = round_plan net node sensed
 
-    instance_is : IsInstance (record { plan = plan_at net node; head = c.head; lists = cluster_lists c.window.lists })
-    instance_is = record { plan = plan; head = soon-head.is; since = soon-head.since; lists = each; clusters = ready.clusters; spaced = ready.spaced; few = ready.few; orders = ready.orders }
+    phases-plan : IsPlan phases
+    phases-plan = plan-round net node sensed plan
 
-    served-next : AreNextServings (plan_at net node) (cluster_lists c.window.lists) (counts_of (cluster_lists c.window.lists)) c.head (phases_of c.answer) c.served
+    phases-head : IsSoonHead phases c.head
+    phases-head = record { is = head-round net node sensed c.head soon-head.is; since = soon-head.since; reach = soon-head.reach }
+
+    each : length (cluster_lists c.window.lists) ≡ length phases
+    each =
+        length-map c.window.lists clusters_of ∙ window-count c.platoons c.window is.problem.taken net network node below c.head sensed early heard is.problem.expected
+        ∙ sym (length-round net node sensed)
+
+    instance_is : IsInstance (record { plan = phases; head = c.head; lists = cluster_lists c.window.lists })
+    instance_is = record { plan = phases-plan; head = phases-head.is; since = soon-head.since; lists = each; clusters = ready.clusters; spaced = ready.spaced; few = ready.few; orders = ready.orders }
+
+    served-next : AreNextServings phases (cluster_lists c.window.lists) (counts_of (cluster_lists c.window.lists)) c.head (phases_of c.answer) c.served
     served-next = subst (λ (p : Problem). AreNextServings p.plan p.lists (counts_of p.lists) p.head (phases_of c.answer) c.served) is.problem.is
         (schedule-made c.problem c.answer (phases_of c.answer) c.served (subst IsInstance (sym is.problem.is) instance_is) is.answer refl is.served).next
 
-    servings : AreServings (plan_at net node) c.head (phases_of c.answer) c.served
-    servings = next-servings (plan_at net node) (cluster_lists c.window.lists) plan each ready.clusters (phases_of c.answer) (counts_of (cluster_lists c.window.lists)) c.head c.served served-next
+    servings : AreServings phases c.head (phases_of c.answer) c.served
+    servings = next-servings phases (cluster_lists c.window.lists) phases-plan each ready.clusters (phases_of c.answer) (counts_of (cluster_lists c.window.lists)) c.head c.served served-next
 
     next : IsNext (plan_at net node) c.head c.next
     next =
-        let greens = greens-by (plan_at net node) (cluster_lists c.window.lists) plan each ready.clusters (sensed.now + net.run.look) (window-soon net node c.head sensed heard c.platoons c.window is.problem.expected is.problem.taken)
-        (phases_of c.answer) (counts_of (cluster_lists c.window.lists)) c.head c.served soon-head.is (omega (arith, look, early)) served-next in
-        subst (IsNext (plan_at net node) c.head) (sym is.next) (next-line (plan_at net node) c.head c.answer c.served (sensed.now + net.run.look) plan soon-head (omega (arith, look, early)) servings greens)
+        let greens = greens-by phases (cluster_lists c.window.lists) phases-plan each ready.clusters (sensed.now + net.run.look) (window-soon net node c.head sensed heard c.platoons c.window is.problem.expected is.problem.taken)
+        (phases_of c.answer) (counts_of (cluster_lists c.window.lists)) c.head c.served phases-head.is (omega (arith, look, early)) served-next in
+        let own : IsNext phases c.head c.next = subst (IsNext phases c.head) (sym is.next) (next-line phases c.head c.answer c.served (sensed.now + net.run.look) phases-plan phases-head (omega (arith, look, early)) servings greens) in
+        record { line = record { lawful = lawful-round net node sensed c.next own.line.lawful; begins = own.line.begins }; goes = own.goes }
 
     -- new greens begin within the look ahead, or as early as they can
     intergreens : AreIntergreensWithin (longest_intergreen (plan_at net node) net.run.look) c.next
     intergreens =
-        let soon = next-soon (plan_at net node) (cluster_lists c.window.lists) (sensed.now + net.run.look) (window-soon net node c.head sensed heard c.platoons c.window is.problem.expected is.problem.taken)
+        let soon = next-soon phases (cluster_lists c.window.lists) (sensed.now + net.run.look) (window-soon net node c.head sensed heard c.platoons c.window is.problem.expected is.problem.taken)
         (phases_of c.answer) (counts_of (cluster_lists c.window.lists)) c.head c.served served-next in
         let later = (row-of-head (plan_at net node) old sensed.now c.head is.problem.at).later in
-        subst (AreIntergreensWithin (longest_intergreen (plan_at net node) net.run.look)) (sym is.next)
-        (next-intergreens (plan_at net node) c.head c.answer c.served (sensed.now + net.run.look) net.run.look (sensed.now + net.run.look) plan soon-head.is (omega (arith, soon-head.reach)) servings (omega (arith, later)) soon)
+        let own : AreIntergreensWithin (longest_intergreen phases net.run.look) c.next = subst (AreIntergreensWithin (longest_intergreen phases net.run.look)) (sym is.next)
+        (next-intergreens phases c.head c.answer c.served (sensed.now + net.run.look) net.run.look (sensed.now + net.run.look) phases-plan phases-head.is (omega (arith, soon-head.reach)) servings (omega (arith, later)) soon) in
+        intergreens-same (longest_intergreen phases net.run.look) (longest_intergreen (plan_at net node) net.run.look) (intergreen-round net node sensed net.run.look) c.next own
 
     pub ends-late : sensed.now + net.run.look < end_of c.line
     ends-late =
         let after : sensed.now + net.run.look < end_of c.next = subst (λ (rows : List Green). sensed.now + net.run.look < end_of rows) (sym is.next)
-        (next-ends (plan_at net node) c.head c.answer c.served (sensed.now + net.run.look) plan soon-head.is (omega (arith, soon-head.reach)) servings) in
+        (next-ends phases c.head c.answer c.served (sensed.now + net.run.look) phases-plan phases-head.is (omega (arith, soon-head.reach)) servings) in
         let continues = continued (plan_at net node) old sensed.now c.head c.next plan line.lawful is.problem.at next.line.lawful next.goes in
         omega (arith, after, continues.end, ap end_of is.line)
 
@@ -112,7 +145,7 @@ module _ (net : Net) (network : IsNetwork net) (node : ℕ) (below : node < leng
     goes-on = record { head = c.head; next = c.next; at = is.problem.at; goes = next.goes; lawful = next.line.lawful; intergreens = intergreens; line = is.line }
 
 -- the rounds of a run
-module _ (net : Net) (network : IsNetwork net) (enters : ℕ → ℕ → ℕ) (heard : ℕ → ℕ → List Heard) (made : ℕ → ℕ → Commitment) (commits : AllCommit net enters heard made net.run.rounds) (node : ℕ) (below : node < length net.node_names) where
+module _ (net : Net) (network : IsNetwork net) (arriving : ℕ → ℕ → ℕ) (heard : ℕ → ℕ → List Heard) (made : ℕ → ℕ → Commitment) (commits : AllCommit net arriving heard made net.run.rounds) (node : ℕ) (below : node < length net.node_names) where
   early : (r : ℕ) → r < net.run.rounds → r * net.run.step ≤ 18000
   early r less = (let most = network.outline.run.rounds.1 in mul-le r net.run.step 600 30 (omega (arith, less, most)) network.outline.run.step.1)
 
@@ -124,13 +157,13 @@ module _ (net : Net) (network : IsNetwork net) (enters : ℕ → ℕ → ℕ) (h
 
   line-is : (r : ℕ) → r ≤ net.run.rounds → IsLine (plan_at net node) (line_before net made r node)
   line-is zero few = first-line
-  line-is (suc r) few = (all-keep net network enters heard made net.run.rounds (omega arith) commits r node (omega (arith, few)) below).line
+  line-is (suc r) few = (all-keep net network arriving heard made net.run.rounds (omega arith) commits r node (omega (arith, few)) below).line
 
   rounds-are : AreRounds (plan_at net node) (longest_intergreen (plan_at net node) net.run.look) net.run.rounds (λ r. r * net.run.step) (λ r. line_before net made r node)
   rounds-are = record {
     lawful = first-line.lawful;
     intergreens = turned-intergreens (plan_at net node) net.run.look (is_unmarked_at (plan_at net node)) first_head _ 0;
-    each = λ r less. goes-on net network node below r (line_before net made r node) (sensed_in net enters made r node) (heard r node) (made r node) (early r less) (line-is r (omega (arith, less))) (commits r node less below).commit;
+    each = λ r less. goes-on net network node below r (line_before net made r node) (sensed_in net arriving made r node) (heard r node) (made r node) (early r less) (line-is r (omega (arith, less))) (commits r node less below).commit;
   }
 
   pub last-line : IsLawful (plan_at net node) (line_before net made net.run.rounds node) × AreIntergreensWithin (longest_intergreen (plan_at net node) net.run.look) (line_before net made net.run.rounds node)
@@ -150,29 +183,29 @@ module _ (net : Net) (network : IsNetwork net) (enters : ℕ → ℕ → ℕ) (h
       by : (r : ℕ) → 1 ≤ r → r ≤ net.run.rounds → r * net.run.step < end_of (line_before net made r node)
       by zero some few = absurd (omega (arith, some))
       by (suc r) some few =
-          let late = ends-late net network node below r (line_before net made r node) (sensed_in net enters made r node) (heard r node) (made r node) (early r (omega (arith, few))) (line-is r (omega (arith, few))) (commits r node (omega (arith, few)) below).commit in
+          let late = ends-late net network node below r (line_before net made r node) (sensed_in net arriving made r node) (heard r node) (made r node) (early r (omega (arith, few))) (line-is r (omega (arith, few))) (commits r node (omega (arith, few)) below).commit in
           omega (arith, late, suc-mul r net.run.step, network.outline.run.within)
 
 -- the last lines cover the run, and it moved by them
-module _ (net : Net) (network : IsNetwork net) (enters : ℕ → ℕ → ℕ) (heard : ℕ → ℕ → List Heard) (made : ℕ → ℕ → Commitment) (commits : AllCommit net enters heard made net.run.rounds) where
+module _ (net : Net) (network : IsNetwork net) (arriving : ℕ → ℕ → ℕ) (heard : ℕ → ℕ → List Heard) (made : ℕ → ℕ → Commitment) (commits : AllCommit net arriving heard made net.run.rounds) where
   pub covers : AreWholeLines net (intergreens_of net net.run.look) (end_of_run net) (line_before net made net.run.rounds)
   covers node below =
-      let last = last-line net network enters heard made commits node below in
+      let last = last-line net network arriving heard made commits node below in
       record {
         lawful = last.0;
         intergreens = last.1;
-        begins = begins-first net network enters heard made commits node below net.run.rounds (omega arith);
-        ends = ends-last net network enters heard made commits node below;
+        begins = begins-first net network arriving heard made commits node below net.run.rounds (omega arith);
+        ends = ends-last net network arriving heard made commits node below;
       }
 
-  same-past : past_of net (arriving_by enters) (standing_by (line_before net made net.run.rounds)) (end_of_run net) ≡ past_by net enters made (end_of_run net)
-  same-past = past-at-nodes net network (arriving_by enters) (standing_by (line_before net made net.run.rounds)) (shown_by net made) (end_of_run net)
-      (λ x n less inside. shows net network (line_before net made) net.run.rounds (all-keep net network enters heard made net.run.rounds (omega arith) commits) net.run.rounds (omega arith) x n inside (div_below x net.run.step net.run.rounds network.outline.run.step.0 less))
+  same-past : cumulative_under net arriving (signs_by (line_before net made net.run.rounds)) (end_of_run net) ≡ cumulative_by net arriving made (end_of_run net)
+  same-past = past-at-nodes net network arriving (signs_by (line_before net made net.run.rounds)) (shown_by net made) (end_of_run net)
+      (λ x n less inside. shows net network (line_before net made) net.run.rounds (all-keep net network arriving heard made net.run.rounds (omega arith) commits) net.run.rounds (omega arith) x n inside (div_below x net.run.step net.run.rounds network.outline.run.step.0 less))
 
-  pub run-waits : AreWaitsWithin net (wait_bounds net (intergreens_of net net.run.look)) (past_by net enters made (end_of_run net)) (end_of_run net)
+  pub run-waits : AreWaitsWithin net (wait_bounds net (intergreens_of net net.run.look)) (cumulative_by net arriving made (end_of_run net)) (end_of_run net)
   run-waits = subst (λ (past : ℕ → ℕ → Cumulative). AreWaitsWithin net (wait_bounds net (intergreens_of net net.run.look)) past (end_of_run net)) same-past
-      (waits-within net network (arriving_by enters) (line_before net made net.run.rounds) (intergreens_of net net.run.look) (end_of_run net) covers)
+      (waits-within net network arriving (line_before net made net.run.rounds) (intergreens_of net net.run.look) (end_of_run net) covers)
 
-  pub run-empties : AreEmptied net (intergreens_of net net.run.look) (past_by net enters made (end_of_run net)) (end_of_run net)
+  pub run-empties : AreEmptied net (intergreens_of net net.run.look) (cumulative_by net arriving made (end_of_run net)) (end_of_run net)
   run-empties = subst (λ (past : ℕ → ℕ → Cumulative). AreEmptied net (intergreens_of net net.run.look) past (end_of_run net)) same-past
-      (empties net network (arriving_by enters) (line_before net made net.run.rounds) (intergreens_of net net.run.look) (end_of_run net) covers)
+      (empties net network arriving (line_before net made net.run.rounds) (intergreens_of net net.run.look) (end_of_run net) covers)

@@ -1,23 +1,26 @@
 //! Waits in runs under actuated control.
-ghost use Rattle.std.specs.Prelude.{ℕ, List, Option};
-ghost use Rattle.actuated.specs.ActRuns.{AllAct, first_line, past_by};
+ghost use Rattle.std.specs.Prelude.{ℕ, List};
+ghost use Rattle.actuated.specs.ActRuns.{AllAct, first_line, cumulative_by};
 ghost use Rattle.actuated.specs.ActSteps.{act_rounds};
 ghost use Rattle.control_flow.specs.declared.greens.Green.{Green};
+ghost use Rattle.control_flow.specs.declared.greens.Sign.{Sign};
 ghost use Rattle.net_parts.specs.Numbers.{Net};
-ghost use Rattle.net_simulator.specs.Flow.{Cumulative, past_of};
+ghost use Rattle.net_simulator.specs.Flow.{Cumulative, cumulative_under};
 ghost use Rattle.net_simulator.specs.Sums.{end_of_run};
 ghost use Rattle.road_net.specs.Network.{IsNetwork};
 ghost use Rattle.signal_safety.specs.Rounds.{line_before};
-ghost use Rattle.waits.specs.Discharges.{AreEmptied, AreWaitsWithin, AreWholeLines, intergreens_of, wait_bounds};
+ghost use Rattle.waits.specs.Bounds.{actuated_bounds};
+ghost use Rattle.waits.specs.Discharges.{AreEmptied, AreWaitsWithin, AreWholeLines, intergreens_of};
 
 /// The last timelines under actuated control are lawful and show all of the run, and their intergreens are yellow and all-red
 /// alone, in whatever world the nodes sense.
 ///
 /// docs/RULES.md, "How long a queue can wait".
 pub fn law_of_actuated_lines()
-    ensures { (net : Net) → IsNetwork net → (under : (ℕ → ℕ → Option (ℕ × ℕ)) → ℕ → ℕ → ℕ → Cumulative)
+    ensures { (net : Net) → IsNetwork net → (under : (ℕ → ℕ → Sign) → ℕ → ℕ → ℕ → Cumulative)
         → (made : ℕ → ℕ → List Green) → AllAct net under made (act_rounds net)
-        → AreWholeLines net (intergreens_of net 0) (end_of_run net) (line_before (first_line net) made (act_rounds net)) }
+        → AreWholeLines net (intergreens_of net 0) (end_of_run net)
+        (line_before (first_line net) made (act_rounds net)) }
 {}
 
 /// Under actuated control no queue waits for ever: each queue of a phase that has a bound loses something within it, where the run
@@ -26,9 +29,9 @@ pub fn law_of_actuated_lines()
 /// docs/RULES.md, "How long a queue can wait".
 pub fn law_of_actuated_waits()
     ensures waits { (net : Net) → IsNetwork net → (arriving : ℕ → ℕ → ℕ) (made : ℕ → ℕ → List Green)
-        → AllAct net (past_of net arriving) made (act_rounds net)
-        → AreWaitsWithin net (wait_bounds net (intergreens_of net 0)) (past_by net arriving made) (end_of_run net) }
+        → AllAct net (cumulative_under net arriving) made (act_rounds net)
+        → AreWaitsWithin net (actuated_bounds net) (cumulative_by net arriving made) (end_of_run net) }
     ensures empties { (net : Net) → IsNetwork net → (arriving : ℕ → ℕ → ℕ) (made : ℕ → ℕ → List Green)
-        → AllAct net (past_of net arriving) made (act_rounds net)
-        → AreEmptied net (intergreens_of net 0) (past_by net arriving made) (end_of_run net) }
+        → AllAct net (cumulative_under net arriving) made (act_rounds net)
+        → AreEmptied net (intergreens_of net 0) (cumulative_by net arriving made) (end_of_run net) }
 {}

@@ -16,5 +16,6 @@ pub fn law_of_cycles()
     ensures { (net : Net) → IsNetwork net → (rows : List FixedRow) → IsFixedPlan net rows
         → (node : ℕ) → node < length net.node_names → (row : FixedRow) → Contains (rows_of rows node) row
         → let length = cycle_length (plan_at net node) (rows_of rows node) in
-        (second : ℕ) → second ≤ end_of_run net → IsGreenBy (fixed_line net rows node) row.phase second (second + length) }
+        (second : ℕ) → second ≤ end_of_run net
+        → IsGreenBy (fixed_line net rows node) row.phase second (second + length) }
 {}

@@ -6,8 +6,8 @@ use Rattle.foundation.proofs.ResultLaws.{same_Ok}
 use Rattle.control_flow.specs.declared.greens.Green.{Green}
 use Rattle.net_parts.specs.Numbers.{Net, no_link}
 use Rattle.net_parts.specs.Outline.{IsLink, link_at, plan_at}
-use Rattle.net_simulator.specs.Flow.{past_of}
-use Rattle.net_simulator.specs.Worlds.{standing_by}
+use Rattle.net_simulator.specs.Flow.{cumulative_under}
+use Rattle.net_simulator.specs.Worlds.{signs_by}
 use Rattle.phase_plan.specs.Phases.{is_unmarked_at, phase_at}
 use Rattle.phase_plan.specs.declared.Phase.{Phase}
 use Rattle.road_net.specs.Network.{IsNetwork}
@@ -40,14 +40,14 @@ node-inside net network l node inside ends =
 
 module _ (net : Net) (network : IsNetwork net) (arriving : ℕ → ℕ → ℕ) (lines : ℕ → List Green) (intergreens : ℕ → ℕ → ℕ) (end : ℕ)
     (covers : AreWholeLines net intergreens end lines) where
-  pub waits-within : AreWaitsWithin net (wait_bounds net intergreens) (past_of net arriving (standing_by lines) end) end
+  pub waits-within : AreWaitsWithin net (wait_bounds net intergreens) (cumulative_under net arriving (signs_by lines) end) end
   waits-within l node wait n inside ends bound room stands =
       let has = has-bound (plan_at net node) (intergreens node) (link_at net l).phase wait bound in
       let line = covers node (node-inside net network l node inside ends) in
-      subst (λ (w : ℕ). Discharges (past_of net arriving (standing_by lines) end) l n (n + w)) has.is
+      subst (λ (w : ℕ). Discharges (cumulative_under net arriving (signs_by lines) end) l n (n + w)) has.is
       (waiting-law net network arriving lines (intergreens node) l node end n inside ends has.unmarked has.long line.lawful line.intergreens (omega (arith, line.begins)) (omega (arith, room, has.is)) line.ends stands)
 
-  pub empties : AreEmptied net intergreens (past_of net arriving (standing_by lines) end) end
+  pub empties : AreEmptied net intergreens (cumulative_under net arriving (signs_by lines) end) end
   empties l node n greens inside ends unmarked room =
       let line = covers node (node-inside net network l node inside ends) in
       emptying-law net network arriving lines (intergreens node) l node end n greens inside ends unmarked line.lawful line.intergreens (omega (arith, line.begins)) room line.ends

@@ -41,6 +41,10 @@ module _ (intergreen : ℕ → ℕ) where
         subst (λ i. (row_at (row ∷ rows) i).from ≤ (row_at rows k).to + intergreen (row_at rows k).phase) e (intergreens.next (suc k) (omega (arith, h)));
   }
 
+-- intergreens within equal bounds
+pub intergreens-same : (some other : ℕ → ℕ) → ((k : ℕ) → some k ≡ other k) → (rows : List Green) → AreIntergreensWithin some rows → AreIntergreensWithin other rows
+intergreens-same some other same rows within = record { next = λ i h. omega (arith, within.next i h, same (row_at rows i).phase) }
+
 -- the ring turns with yellow and all-red alone
 
 module _ (plan : List Phase) (look : ℕ) where

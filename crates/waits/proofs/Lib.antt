@@ -1,10 +1,11 @@
 pub mod BoundLaws
-pub mod Calls
+pub mod Recalled
 pub mod Emptying
 pub mod Intergreens
 pub mod Ring
 pub mod Rounds
 pub mod Shown
 pub mod Soon
+pub mod TableLaws
 pub mod Turns
 pub mod Waiting

@@ -9,7 +9,7 @@ use Rattle.control_flow.proofs.MarkLaws.{all-round, each-of-range}
 
 module _ (f : ℕ → ℕ) where
   -- the sum over the numbers from a up to b
-  abbrev over : ℕ → ℕ → ℕ
+  abbrev pub over : ℕ → ℕ → ℕ
   over a b = sum_by f (range_with_len a (b - a))
 
   over-first : (a b : ℕ) → a < b → over a b ≡ f a + over (a + 1) b
@@ -17,7 +17,7 @@ module _ (f : ℕ → ℕ) where
       let e : b - a ≡ suc (b - (a + 1)) = omega arith in
       ap (λ (n : ℕ). sum_by f (range_with_len a n)) e ∙ sum_by-cons f a (range_with_len (a + 1) (b - (a + 1)))
 
-  over-none : (a b : ℕ) → b ≤ a → over a b ≡ 0
+  pub over-none : (a b : ℕ) → b ≤ a → over a b ≡ 0
   over-none a b h = let e : b - a ≡ 0 = omega arith in ap (λ (n : ℕ). sum_by f (range_with_len a n)) e
 
   over-parts : (d a b : ℕ) → a + d ≤ b → over a b ≡ over a (a + d) + over (a + d) b
@@ -32,7 +32,7 @@ module _ (f : ℕ → ℕ) where
       omega (arith, first, later_part, begin, ap (λ (x : ℕ). over (a + 1) x) e, ap (λ (x : ℕ). over x b) e)
 
   -- from a up to b, by way of m
-  over-by : (a m b : ℕ) → a ≤ m → m < b → over a b ≡ over a m + f m + over (m + 1) b
+  pub over-by : (a m b : ℕ) → a ≤ m → m < b → over a b ≡ over a m + f m + over (m + 1) b
   over-by a m b low high =
       let parts = over-parts (m - a) a b (omega arith) in
       let e : a + (m - a) ≡ m = omega arith in
@@ -40,13 +40,13 @@ module _ (f : ℕ → ℕ) where
 
   module _ (plan : List Phase) where
     -- the sum over the phases between two
-    abbrev sum_between : ℕ → ℕ → ℕ
+    abbrev pub sum_between : ℕ → ℕ → ℕ
     sum_between s j = sum_by f (between plan s j)
 
     up : (s j : ℕ) → s < j → sum_between s j ≡ over (s + 1) j
     up s j h = ap (sum_by f) (sym (cond_below s j (range_with_len (s + 1) (j - (s + 1))) (range_with_len (s + 1) (length plan - (s + 1)) ++ range_with_len 0 j) h))
 
-    round : (s j : ℕ) → j ≤ s → sum_between s j ≡ over (s + 1) (length plan) + over 0 j
+    pub round : (s j : ℕ) → j ≤ s → sum_between s j ≡ over (s + 1) (length plan) + over 0 j
     round s j h =
         let high = range_with_len (s + 1) (length plan - (s + 1)) in
         let both : List ℕ = high ++ range_with_len 0 j in

@@ -1,12 +1,18 @@
 -- The row that is green in a second.
 use Rattle.std.proofs.Common.{◌≡◌, ℕ, ◌<◌, ◌≤◌, Bool, true, false, cond, eqb, leb, ltb, ◌&&◌, List, [], ◌∷◌, length, Some, refl, sym, ap, ◌∙◌, inl, inr, arith, true≢false}
+use Rattle.std.specs.Option.{option_map}
+use Rattle.std.proofs.lemmas.Option.{none-some, same_Some}
 use Rattle.std.proofs.lemmas.Bool.{and_left, and_parts, and_right, and_from, cases_Bool, eqb-true, le-leb, le-ltb, leb-true, lt-leb, lt-ltb, ltb-true, or_from}
 use Rattle.phase_plan.specs.Phases.{IsPlan}
 use Rattle.phase_plan.specs.declared.Phase.{Phase}
-use Rattle.control_flow.specs.Greens.{IsGreen, IsLawful, covers, green_at, is_green, row_at}
+use Rattle.control_flow.specs.Greens.{IsGreen, IsInOrder, IsLawful, covers, green_at, is_green, row_at}
+use Rattle.control_flow.specs.Signs.{on_of, sign_at}
 use Rattle.control_flow.specs.declared.greens.Green.{Green}
+use Rattle.control_flow.specs.declared.greens.Sign.{Sign}
+use Rattle.control_flow.specs.declared.greens.Sign.TheVariants.{Change, Dark, On}
 use Rattle.control_flow.proofs.OrderLaws.{green-length}
 use Rattle.control_flow.proofs.RowLaws.{lawful-first, lawful-tail}
+use Rattle.control_flow.proofs.SignLaws.{standing-green}
 
 -- a row of phase k that covers second x, and that the line shows in each of its seconds
 pub record IsShown (plan : List Phase) (rows : List Green) (k x : ℕ) : Type 0 where
@@ -78,3 +84,14 @@ module _ (plan : List Phase) (p : IsPlan plan) where
             ] in
             behind row (next ∷ rows) k x lawful is f (omega arith) (shown (next ∷ rows) k x others behind_row)
       ]
+
+-- a sign that shows this green is on
+on-is : (s : Sign) (k since : ℕ) → on_of s ≡ Some (k, since) → s ≡ On k since
+on-is (On phase from) k since e = ap (λ (g : ℕ × ℕ). On g.0 g.1) (same_Some (phase, from) (k, since) e)
+on-is (Change before after) k since e = absurd (none-some (k, since) e)
+on-is Dark k since e = absurd (none-some (k, since) e)
+
+-- the sign of a second in which a line shows a row of phase k
+pub on-at : (rows : List Green) (y : ℕ) (row : Green) (k : ℕ) → IsInOrder rows → green_at rows y ≡ Some row → row.phase ≡ k → sign_at rows y ≡ On k row.from
+on-at rows y row k order found same =
+    on-is (sign_at rows y) row.phase row.from (standing-green rows y order ∙ ap (option_map (λ (r : Green). (r.phase, r.from))) found) ∙ ap (λ (j : ℕ). On j row.from) same

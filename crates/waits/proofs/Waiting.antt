@@ -1,47 +1,49 @@
 -- A queue of a phase that is green within some time discharges within that time and the start-up of the green.
 use Rattle.std.proofs.Common.{◌≡◌, ℕ, zero, suc, ◌+◌, ◌-◌, ◌<◌, ◌≤◌, min, Bool, true, false, cond, eqb, ltb, not, ◌&&◌, List, [], length, IfSome, Option, Some, refl, sym, ap, subst, ◌∙◌, inl, inr, arith}
-use Rattle.std.specs.Option.{option_map}
 use Rattle.std.proofs.lemmas.Bool.{and_from, and_left, cases_lt, eq-eqb, le-ltb}
 use Rattle.std.proofs.lemmas.List.Elements.{All-get_or}
 use Rattle.phase_plan.specs.Phases.{IsPlan, is_unmarked_at, phase_at}
 use Rattle.control_flow.specs.Greens.{IsLawful, end_of, row_at}
 use Rattle.control_flow.specs.declared.greens.Green.{Green}
+use Rattle.control_flow.specs.declared.greens.Sign.{Sign}
+use Rattle.control_flow.specs.declared.greens.Sign.TheVariants.{On}
+use Rattle.control_flow.proofs.OrderLaws.{order-lawful}
 use Rattle.net_parts.specs.Numbers.{Net, no_link}
 use Rattle.net_parts.specs.Outline.{IsLink, link_at, plan_at}
 use Rattle.road_net.specs.Network.{IsNetwork}
 use Rattle.road_net.proofs.Served.{served}
-use Rattle.net_simulator.specs.Flow.{Cumulative, discharged, discharged_to, may_go, passing, past_of, queue, waiting}
-use Rattle.net_simulator.specs.Worlds.{standing_by}
+use Rattle.net_simulator.specs.Flow.{Cumulative, discharge, discharge_to, may_go, passing, cumulative_under, queue, waiting}
+use Rattle.net_simulator.specs.Worlds.{signs_by}
 use Rattle.net_simulator.proofs.FlowLaws.{past-kept, past-next}
 use Rattle.waits.specs.Discharges.{Discharges, longest_wait}
 use Rattle.waits.specs.Waits.{IsGreenBy, AreIntergreensWithin, longest_way}
-use Rattle.waits.proofs.Shown.{IsShown, shown}
+use Rattle.waits.proofs.Shown.{IsShown, on-at, shown}
 use Rattle.waits.proofs.Turns.{within}
 
-module _ (net : Net) (arriving : ℕ → ℕ → ℕ) (seen : ℕ → ℕ → Option (ℕ × ℕ)) (l : ℕ) (inside : l < length net.link_names) where
+module _ (net : Net) (arriving : ℕ → ℕ → ℕ) (seen : ℕ → ℕ → Sign) (l : ℕ) (inside : l < length net.link_names) where
   -- what passed the link in the first n seconds
   abbrev pub passed : ℕ → Cumulative
-  passed n = past_of net arriving seen n n l
+  passed n = cumulative_under net arriving seen n n l
 
-  still : (d n : ℕ) → past_of net arriving seen (n + d) n l ≡ passed n
-  still zero n = let e : n + 0 ≡ n = omega arith in ap (λ (x : ℕ). past_of net arriving seen x n l) e
+  still : (d n : ℕ) → cumulative_under net arriving seen (n + d) n l ≡ passed n
+  still zero n = let e : n + 0 ≡ n = omega arith in ap (λ (x : ℕ). cumulative_under net arriving seen x n l) e
   still (suc d) n =
       let e : n + suc d ≡ suc (n + d) = omega arith in
-      ap (λ (x : ℕ). past_of net arriving seen x n l) e ∙ past-kept net arriving seen (n + d) n l (omega arith) ∙ still d n
+      ap (λ (x : ℕ). cumulative_under net arriving seen x n l) e ∙ past-kept net arriving seen (n + d) n l (omega arith) ∙ still d n
 
   -- it is the same in each later past
-  pub in-past : (now n : ℕ) → n ≤ now → past_of net arriving seen now n l ≡ passed n
+  pub in-past : (now n : ℕ) → n ≤ now → cumulative_under net arriving seen now n l ≡ passed n
   in-past now n h =
       let e : n + (now - n) ≡ now = omega arith in
-      ap (λ (x : ℕ). past_of net arriving seen x n l) (sym e) ∙ still (now - n) n
+      ap (λ (x : ℕ). cumulative_under net arriving seen x n l) (sym e) ∙ still (now - n) n
 
-  next : (x : ℕ) → passed (x + 1) ≡ passing net (arriving x) (seen x) (past_of net arriving seen x) x l
+  next : (x : ℕ) → passed (x + 1) ≡ passing net (arriving x) (seen x) (cumulative_under net arriving seen x) x l
   next x =
       let e : x + 1 ≡ suc x = omega arith in
-      ap (λ (y : ℕ). past_of net arriving seen y (x + 1) l) e ∙ past-next net arriving seen x l inside
+      ap (λ (y : ℕ). cumulative_under net arriving seen y (x + 1) l) e ∙ past-next net arriving seen x l inside
 
   abbrev goes : ℕ → ℕ
-  goes x = discharged net (seen x) (past_of net arriving seen x) x l
+  goes x = discharge net (seen x) (cumulative_under net arriving seen x) x l
 
   pub left-next : (x : ℕ) → (passed (x + 1)).left ≡ (passed x).left + goes x
   left-next x = ap (λ (q : Cumulative). q.left) (next x)
@@ -68,7 +70,7 @@ module _ (net : Net) (arriving : ℕ → ℕ → ℕ) (seen : ℕ → ℕ → Op
   entered-later n m h = let e : n + (m - n) ≡ m = omega arith in omega (arith, entered-grows (m - n) n, ap (λ (x : ℕ). (passed x).entered) e)
 
   -- so is a queue
-  pub queue-kept : (now n : ℕ) → n ≤ now → queue net (past_of net arriving seen now) n l ≡ queue net (past_of net arriving seen n) n l
+  pub queue-kept : (now n : ℕ) → n ≤ now → queue net (cumulative_under net arriving seen now) n l ≡ queue net (cumulative_under net arriving seen n) n l
   queue-kept now n h =
       let early = in-past now (n - (link_at net l).travel) (omega (arith, h)) in
       let here = in-past n (n - (link_at net l).travel) (omega arith) in
@@ -78,27 +80,27 @@ module _ (net : Net) (arriving : ℕ → ℕ → ℕ) (seen : ℕ → ℕ → Op
     abbrev travel : ℕ
     travel = (link_at net l).travel
 
-    pub queue-is : (n : ℕ) → queue net (past_of net arriving seen n) n l ≡ (passed (n - travel)).entered - (passed n).left
+    pub queue-is : (n : ℕ) → queue net (cumulative_under net arriving seen n) n l ≡ (passed (n - travel)).entered - (passed n).left
     queue-is n = (let e = ap (λ (q : Cumulative). q.entered) (in-past n (n - travel) (omega arith)) in omega (arith, e))
 
-    pub waiting-is : (x : ℕ) → waiting net (past_of net arriving seen x) x l ≡ (passed (x + 1 - travel)).entered - (passed x).left
+    pub waiting-is : (x : ℕ) → waiting net (cumulative_under net arriving seen x) x l ≡ (passed (x + 1 - travel)).entered - (passed x).left
     waiting-is x = (let e = ap (λ (q : Cumulative). q.entered) (in-past x (x + 1 - travel) (omega arith)) in omega (arith, e))
 
     -- in a second in which the link may discharge, what waits goes, or as much as can
-    pub goes-open : (x since : ℕ) → seen x node ≡ Some ((link_at net l).phase, since) → since + (phase_at (plan_at net node) (link_at net l).phase).loss ≤ x
-        → goes x ≡ min (link_at net l).sat (waiting net (past_of net arriving seen x) x l)
+    pub goes-open : (x since : ℕ) → seen x node ≡ On (link_at net l).phase since → since + (phase_at (plan_at net node) (link_at net l).phase).loss ≤ x
+        → goes x ≡ min (link_at net l).sat (waiting net (cumulative_under net arriving seen x) x l)
     goes-open x since shows spent =
-        let p = past_of net arriving seen x in
+        let p = cumulative_under net arriving seen x in
         let k = (link_at net l).phase in
         let lost : (ltb x (since + (phase_at (plan_at net node) k).loss) && ltb 0 (queue net p since l)) ≡ false = and_left (ltb x (since + (phase_at (plan_at net node) k).loss)) (ltb 0 (queue net p since l)) (le-ltb x (since + (phase_at (plan_at net node) k).loss) spent) in
-        let may : may_go net p x l node (Some (k, since)) ≡ true = and_from (eqb k k) (not (ltb x (since + (phase_at (plan_at net node) k).loss) && ltb 0 (queue net p since l))) (eq-eqb k k refl) (ap not lost) in
-        ap (λ (to : Option ℕ). discharged_to net (seen x) p x l to) ends
-        ∙ ap (λ (g : Option (ℕ × ℕ)). cond (may_go net p x l node g) (min (link_at net l).sat (waiting net p x l)) 0) shows
+        let may : may_go net p x l node (On k since) ≡ true = and_from (eqb k k) (not (ltb x (since + (phase_at (plan_at net node) k).loss) && ltb 0 (queue net p since l))) (eq-eqb k k refl) (ap not lost) in
+        ap (λ (to : Option ℕ). discharge_to net (seen x) p x l to) ends
+        ∙ ap (λ (s : Sign). cond (may_go net p x l node s) (min (link_at net l).sat (waiting net p x l)) 0) shows
         ∙ ap (λ (b : Bool). cond b (min (link_at net l).sat (waiting net p x l)) 0) may
 
     -- a queue that stands after the first n seconds has lost something by the end of such a second
-    pub goes-by : (n x since : ℕ) → n ≤ x → seen x node ≡ Some ((link_at net l).phase, since) → since + (phase_at (plan_at net node) (link_at net l).phase).loss ≤ x
-        → 0 < queue net (past_of net arriving seen n) n l → (passed n).left < (passed (x + 1)).left
+    pub goes-by : (n x since : ℕ) → n ≤ x → seen x node ≡ On (link_at net l).phase since → since + (phase_at (plan_at net node) (link_at net l).phase).loss ≤ x
+        → 0 < queue net (cumulative_under net arriving seen n) n l → (passed n).left < (passed (x + 1)).left
     goes-by n x since h shows spent stands =
         let grown = left-later n x h in
         elim (cases_lt (passed n).left (passed x).left) [
@@ -120,28 +122,28 @@ module _ (net : Net) (network : IsNetwork net) (arriving : ℕ → ℕ → ℕ) 
   link-is : IsLink (length net.node_names) (link_at net l)
   link-is = All-get_or (IsLink (length net.node_names)) net.links l no_link (let f = network.outline.road_count in omega (arith, f, inside)) network.outline.links
 
-  seen : ℕ → ℕ → Option (ℕ × ℕ)
-  seen = standing_by lines
+  seen : ℕ → ℕ → Sign
+  seen = signs_by lines
 
-  shows : (x y : ℕ) (one : IsShown (plan_at net node) (lines node) k x) → one.row.from ≤ y → y < one.row.to → standing_by lines y node ≡ Some (k, one.row.from)
-  shows x y one low high = ap (option_map (λ (row : Green). (row.phase, row.from))) (one.found y low high) ∙ ap (λ (j : ℕ). Some (j, one.row.from)) one.phase
+  shows : (x y : ℕ) (one : IsShown (plan_at net node) (lines node) k x) → one.row.from ≤ y → y < one.row.to → signs_by lines y node ≡ On k one.row.from
+  shows x y one low high = on-at (lines node) y one.row k (order-lawful (plan_at net node) (lines node) p lawful) (one.found y low high) one.phase
 
-  pub waits : (n most now : ℕ) → IsGreenBy (lines node) k n (n + most) → n + (most + loss + 1) ≤ now → 0 < queue net (past_of net arriving (standing_by lines) now) n l
-      → (past_of net arriving (standing_by lines) now n l).left < (past_of net arriving (standing_by lines) now (n + (most + loss + 1)) l).left
+  pub waits : (n most now : ℕ) → IsGreenBy (lines node) k n (n + most) → n + (most + loss + 1) ≤ now → 0 < queue net (cumulative_under net arriving (signs_by lines) now) n l
+      → (cumulative_under net arriving (signs_by lines) now n l).left < (cumulative_under net arriving (signs_by lines) now (n + (most + loss + 1)) l).left
   waits n most now by room stands =
       let one = shown (plan_at net node) p (lines node) k by.second lawful by.green in
       let least : one.row.from + (phase_at (plan_at net node) k).least ≤ one.row.to = subst (λ (j : ℕ). one.row.from + (phase_at (plan_at net node) j).least ≤ one.row.to) one.phase one.green.least in
-      let same = in-past net arriving (standing_by lines) l inside now n (omega (arith, room)) in
-      let later = in-past net arriving (standing_by lines) l inside now (n + (most + loss + 1)) room in
-      let now_stands : 0 < queue net (past_of net arriving (standing_by lines) n) n l = omega (arith, stands, queue-kept net arriving (standing_by lines) l inside now n (omega (arith, room))) in
+      let same = in-past net arriving (signs_by lines) l inside now n (omega (arith, room)) in
+      let later = in-past net arriving (signs_by lines) l inside now (n + (most + loss + 1)) room in
+      let now_stands : 0 < queue net (cumulative_under net arriving (signs_by lines) n) n l = omega (arith, stands, queue-kept net arriving (signs_by lines) l inside now n (omega (arith, room))) in
       elim (cases_lt by.second (one.row.from + loss)) [
         | inl starts ↦
             let x = one.row.from + loss in
-            let goes = goes-by net arriving (standing_by lines) l inside link-is.travel.0 link-is.sat.0 node ends n x one.row.from (omega (arith, by.after, starts)) (shows by.second x one (omega arith) (omega (arith, least, long))) (omega arith) now_stands in
-            omega (arith, goes, left-later net arriving (standing_by lines) l inside (x + 1) (n + (most + loss + 1)) (omega (arith, one.begun, by.before)), ap (λ (q : Cumulative). q.left) same, ap (λ (q : Cumulative). q.left) later)
+            let goes = goes-by net arriving (signs_by lines) l inside link-is.travel.0 link-is.sat.0 node ends n x one.row.from (omega (arith, by.after, starts)) (shows by.second x one (omega arith) (omega (arith, least, long))) (omega arith) now_stands in
+            omega (arith, goes, left-later net arriving (signs_by lines) l inside (x + 1) (n + (most + loss + 1)) (omega (arith, one.begun, by.before)), ap (λ (q : Cumulative). q.left) same, ap (λ (q : Cumulative). q.left) later)
         | inr goes_on ↦
-            let goes = goes-by net arriving (standing_by lines) l inside link-is.travel.0 link-is.sat.0 node ends n by.second one.row.from by.after (shows by.second by.second one one.begun one.still) goes_on now_stands in
-            omega (arith, goes, left-later net arriving (standing_by lines) l inside (by.second + 1) (n + (most + loss + 1)) (omega (arith, by.before)), ap (λ (q : Cumulative). q.left) same, ap (λ (q : Cumulative). q.left) later)
+            let goes = goes-by net arriving (signs_by lines) l inside link-is.travel.0 link-is.sat.0 node ends n by.second one.row.from by.after (shows by.second by.second one one.begun one.still) goes_on now_stands in
+            omega (arith, goes, left-later net arriving (signs_by lines) l inside (by.second + 1) (n + (most + loss + 1)) (omega (arith, by.before)), ap (λ (q : Cumulative). q.left) same, ap (λ (q : Cumulative). q.left) later)
       ]
 
 -- where the greens follow one another within intergreens
@@ -150,8 +152,8 @@ pub waiting-law : (net : Net) → IsNetwork net → (arriving : ℕ → ℕ → 
     → (phase_at (plan_at net node) (link_at net l).phase).loss < (phase_at (plan_at net node) (link_at net l).phase).least
     → IsLawful (plan_at net node) (lines node) → AreIntergreensWithin intergreen (lines node) → (row_at (lines node) 0).from ≤ n
     → n + longest_wait (plan_at net node) intergreen (link_at net l).phase ≤ now → now < end_of (lines node)
-    → 0 < queue net (past_of net arriving (standing_by lines) now) n l
-    → Discharges (past_of net arriving (standing_by lines) now) l n (n + longest_wait (plan_at net node) intergreen (link_at net l).phase)
+    → 0 < queue net (cumulative_under net arriving (signs_by lines) now) n l
+    → Discharges (cumulative_under net arriving (signs_by lines) now) l n (n + longest_wait (plan_at net node) intergreen (link_at net l).phase)
 waiting-law net network arriving lines intergreen l node now n inside ends free long lawful intergreens begun room end stands =
     let link : IsLink (length net.node_names) (link_at net l) = All-get_or (IsLink (length net.node_names)) net.links l no_link (let f = network.outline.road_count in omega (arith, f, inside)) network.outline.links in
     let there : node < length net.node_names = subst (λ (o : Option ℕ). IfSome o (λ n. n < length net.node_names)) ends link.to in

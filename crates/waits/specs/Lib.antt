@@ -1,3 +1,4 @@
+pub mod Bounds
 pub mod Waits
 pub mod Discharges
 pub mod Rounds

@@ -1,7 +1,5 @@
 -- A signal's timeline round by round.
-use Rattle.std.specs.Prelude.{◌≡◌, ℕ, suc, ◌<◌, Bool, not, ◌&&◌, List, Some, length, map}
-use Rattle.std.specs.List.{range_with_len}
-use Rattle.phase_plan.specs.Phases.{phase_at}
+use Rattle.std.specs.Prelude.{◌≡◌, ℕ, suc, ◌<◌, List, Some}
 use Rattle.phase_plan.specs.declared.Phase.{Phase}
 use Rattle.switch_rules.specs.declared.Head.{Head}
 use Rattle.control_flow.specs.Greens.{GoesOn, IsLawful, head_at, spliced}
@@ -24,11 +22,3 @@ pub record AreRounds (plan : List Phase) (intergreen : ℕ → ℕ) (rounds : �
   pub lawful : IsLawful plan (line 0)
   pub intergreens : AreIntergreensWithin intergreen (line 0)
   pub each : (r : ℕ) → r < rounds → IsRound plan intergreen (begins r) (line r) (line (suc r))
-
--- phase k without its mark where it is called
-abbrev pub called_phase : List Phase → (ℕ → Bool) → ℕ → Phase
-called_phase plan calls k = record (phase_at plan k) { skip = (phase_at plan k).skip && not (calls k) }
-
--- the plan in which the phases that are called have no mark
-abbrev pub without_marks : List Phase → (ℕ → Bool) → List Phase
-without_marks plan calls = map (called_phase plan calls) (range_with_len 0 (length plan))

@@ -1,6 +1,18 @@
-//! Why there is no bound on the wait of a phase's queues.
+//! Within how many seconds each queue of a phase loses something, or why there is no such bound.
+ghost use Rattle.std.specs.Prelude.{◌≡◌, ◌++◌, ◌+◌, ◌-◌, ◌*◌, ◌<◌, ◌≤◌, IfOk, OnOk, length, max, sum_by};
+ghost use Rattle.std.specs.List.{range_with_len};
+ghost use Rattle.net_parts.specs.Limits.{most_look};
+ghost use Rattle.net_parts.specs.Outline.{plan_at};
+ghost use Rattle.phase_plan.specs.Phases.{IsPhase};
+ghost use Rattle.waits.specs.Bounds as spec;
+ghost use Rattle.waits.specs.Discharges as discharges;
+ghost use Rattle.waits.specs.Waits.{longest_span};
+ghost use Rattle.waits.specs.Waits as waits;
 
 use foundation::threads::CrossesThreads;
+use phase_plan::{Phase, PhasePlan};
+use road_net::Network;
+use std::alloc::{AllocError, Global};
 
 /// Why the queues of a phase may wait for ever.
 ///
@@ -13,4 +25,124 @@ pub enum NoBound {
     ShortGreen,
 }
 
+/// The bounds of a phase of a network's node, in seconds.
+///
+/// docs/RULES.md, "How long a queue can wait".
+#[derive(Debug, Clone, Copy, PartialEq, Eq)]
+pub struct PhaseBounds {
+    /// The number of the node.
+    pub node: u32,
+    /// The phase, from 0.
+    pub phase: u8,
+    /// Where the nodes plan.
+    pub planned: Result<u32, NoBound>,
+    /// Under actuated control.
+    pub actuated: Result<u32, NoBound>,
+}
+
 impl CrossesThreads for NoBound {}
+
+impl CrossesThreads for PhaseBounds {}
+
+/// The bounds of all phases of a network, by node and phase. `Err`: out of memory.
+///
+/// docs/RULES.md, "How long a queue can wait".
+pub fn network_bounds(alloc: Global, net: &Network) -> Result<Vec<PhaseBounds>, AllocError>
+    ensures { IfOk result (λ bounds. bounds.items ≡ spec.network_bounds net.now) }
+{
+    let mut bounds = Vec::new(alloc);
+    for node in 0..net.nodes() {
+        push_node_bounds(net, node, &mut bounds)?;
+    }
+    Ok(bounds)
+}
+
+/// Adds the bounds of the phases of a node.
+fn push_node_bounds(
+    net: &Network,
+    node: u32,
+    bounds: &mut Vec<PhaseBounds>,
+) -> Result<(), AllocError>
+    requires { node < length net.now.node_names }
+    ensures { OnOk result (bounds.new.items ≡ bounds.old.items ++ spec.node_bounds net.now node) }
+{
+    for phase in 0..net.plan(node).count() {
+        bounds.push(phase_bounds(net, node, phase))?;
+    }
+    Ok(())
+}
+
+/// The bounds of a phase of a node, where the nodes plan and under actuated control.
+///
+/// docs/RULES.md, "How long a queue can wait".
+pub fn phase_bounds(net: &Network, node: u32, phase: u8) -> PhaseBounds
+    requires node { node < length net.now.node_names }
+    requires phase { phase < length (plan_at net.now node) }
+    ensures value { result ≡ spec.phase_bounds net.now node phase }
+{
+    let plan = net.plan(node);
+    PhaseBounds {
+        node,
+        phase,
+        planned: wait_bound(plan, net.run().look, phase),
+        actuated: wait_bound(plan, 0, phase),
+    }
+}
+
+/// Within how many seconds each queue of a phase loses something, where the signal stays in all-red at most `look` seconds from the
+/// end of a green; else why there is no such bound.
+///
+/// docs/RULES.md, "How long a queue can wait".
+pub fn wait_bound(plan: &PhasePlan, look: u32, phase: u8) -> Result<u32, NoBound>
+    requires look { look ≤ most_look }
+    requires phase { phase < length plan.now }
+    ensures value { result ≡ discharges.wait_bound plan.now (waits.longest_intergreen plan.now look) phase }
+{
+    let times = plan.phase(phase);
+    if times.skip {
+        return Err(NoBound::Marked);
+    }
+    if times.loss < times.least {
+        Ok(longest_red(plan, look, phase) + times.loss + 1)
+    } else {
+        Err(NoBound::ShortGreen)
+    }
+}
+
+/// The longest time that a phase is without green.
+fn longest_red(plan: &PhasePlan, look: u32, phase: u8) -> u32
+    requires look { look ≤ most_look }
+    requires phase { phase < length plan.now }
+    ensures value { result ≡ waits.longest_red plan.now (waits.longest_intergreen plan.now look) phase }
+    ensures bounds { result ≤ 2000 }
+{
+    let count = plan.count();
+    let after = longest_spans(plan, look, phase + 1, count);
+    let before = longest_spans(plan, look, 0, phase);
+    longest_intergreen(plan.phase(phase), look) + (after + before)
+}
+
+/// How long the phases from `low` up to `high` keep the others waiting, one after another.
+fn longest_spans(plan: &PhasePlan, look: u32, low: u8, high: u8) -> u32
+    requires look { look ≤ most_look }
+    requires low { low ≤ high }
+    requires high { high ≤ length plan.now }
+    ensures value { result
+        ≡ sum_by (longest_span plan.now (waits.longest_intergreen plan.now look)) (range_with_len low (high - low)) }
+    ensures bounds { result ≤ 420 * (high - low) }
+{
+    let mut total = 0;
+    for k in low..high {
+        let times = plan.phase(k);
+        total += times.greatest + longest_intergreen(times, look);
+    }
+    total
+}
+
+/// The longest intergreen after a phase.
+fn longest_intergreen(times: &Phase, look: u32) -> u32
+    requires { IsPhase times.now }
+    ensures value { result ≡ max (times.now.yellow + times.now.clear) look }
+{
+    (times.yellow + times.clear).max(look)
+}

@@ -4,8 +4,8 @@ ghost use Rattle.control_flow.specs.Greens.{GoesOn, IsLawful, end_of, head_at, r
 ghost use Rattle.control_flow.specs.Timelines.{AreServings, line_of, turned};
 ghost use Rattle.control_flow.specs.declared.greens.Green.{Green};
 ghost use Rattle.net_parts.specs.Numbers.{Net};
-ghost use Rattle.net_simulator.specs.Flow.{past_of};
-ghost use Rattle.net_simulator.specs.Worlds.{standing_by};
+ghost use Rattle.net_simulator.specs.Flow.{cumulative_under};
+ghost use Rattle.net_simulator.specs.Worlds.{signs_by};
 ghost use Rattle.phase_plan.specs.Phases.{IsPlan, is_unmarked_at};
 ghost use Rattle.phase_plan.specs.declared.Phase.{Phase};
 ghost use Rattle.road_net.specs.Network.{IsNetwork};
@@ -15,7 +15,8 @@ ghost use Rattle.switch_rules.specs.declared.Cluster.{Cluster};
 ghost use Rattle.switch_rules.specs.declared.Head.{Head};
 ghost use Rattle.switch_rules.specs.declared.Served.{Served};
 ghost use Rattle.waits.specs.Discharges.{AreEmptied, AreWaitsWithin, AreWholeLines, wait_bounds};
-ghost use Rattle.waits.specs.Rounds.{AreRounds, without_marks};
+ghost use Rattle.control_flow.specs.Recalls.{recalled};
+ghost use Rattle.waits.specs.Rounds.{AreRounds};
 ghost use Rattle.waits.specs.Waits.{AreIntergreensWithin, BeginSoon, IsGreenBy, IsGreenWithin};
 ghost use Rattle.waits.specs.Waits.{longest_intergreen, longest_red};
 
@@ -64,23 +65,23 @@ pub fn law_of_rounds()
     ensures rounds { (plan : List Phase) → IsPlan plan → (intergreen : ℕ → ℕ) (rounds : ℕ) (begins : ℕ → ℕ)
         → (line : ℕ → List Green) → AreRounds plan intergreen rounds begins line
         → (r : ℕ) → r ≤ rounds → IsLawful plan (line r) × AreIntergreensWithin intergreen (line r) }
-    ensures marks { (plan : List Phase) (calls : ℕ → Bool) (rows : List Green) → IsLawful (without_marks plan calls) rows
-        → IsLawful plan rows }
+    ensures marks { (plan : List Phase) (is_recalled : ℕ → Bool) (rows : List Green)
+        → IsLawful (recalled plan is_recalled) rows → IsLawful plan rows }
 {}
 
-/// Where from a round on a phase is called, so that what each round splices in is lawful without its mark, the phase is green
+/// Where from a round on a phase is recalled, so that what each round splices in is lawful without its mark, the phase is green
 /// within its longest red of the head's green of that round, and of each later second.
 ///
 /// docs/RULES.md, "How long a queue can wait".
-pub fn law_of_calls()
-    ensures { (plan : List Phase) (calls : ℕ → Bool) → IsPlan plan → (intergreen : ℕ → ℕ) (rounds : ℕ) (begins : ℕ → ℕ)
-        → (line : ℕ → List Green) → (are : AreRounds plan intergreen rounds begins line)
+pub fn law_of_recalls()
+    ensures { (plan : List Phase) (is_recalled : ℕ → Bool) → IsPlan plan → (intergreen : ℕ → ℕ) (rounds : ℕ)
+        → (begins : ℕ → ℕ) (line : ℕ → List Green) → (are : AreRounds plan intergreen rounds begins line)
         → ((r s : ℕ) → r ≤ s → begins r ≤ begins s) → (first : ℕ) (less : first < rounds)
-        → ((r : ℕ) (inside : r < rounds) → first ≤ r → IsLawful (without_marks plan calls) (are.each r inside).next)
-        → (k : ℕ) → k < length (without_marks plan calls) → IsTrue (is_unmarked_at (without_marks plan calls) k)
+        → ((r : ℕ) (inside : r < rounds) → first ≤ r → IsLawful (recalled plan is_recalled) (are.each r inside).next)
+        → (k : ℕ) → k < length (recalled plan is_recalled) → IsTrue (is_unmarked_at (recalled plan is_recalled) k)
         → (second : ℕ) → (row_at (are.each first less).next 0).from ≤ second
-        → second + longest_red (without_marks plan calls) intergreen k < end_of (line rounds)
-        → IsGreenBy (line rounds) k second (second + longest_red (without_marks plan calls) intergreen k) }
+        → second + longest_red (recalled plan is_recalled) intergreen k < end_of (line rounds)
+        → IsGreenBy (line rounds) k second (second + longest_red (recalled plan is_recalled) intergreen k) }
 {}
 
 /// Under lawful timelines with intergreens within bounds, one for each node, whoever made them, no queue waits for ever: each queue
@@ -91,8 +92,8 @@ pub fn law_of_calls()
 pub fn law_of_waits()
     ensures waits { (net : Net) → IsNetwork net → (arriving : ℕ → ℕ → ℕ) (lines : ℕ → List Green)
         → (intergreens : ℕ → ℕ → ℕ) (end : ℕ) → AreWholeLines net intergreens end lines
-        → AreWaitsWithin net (wait_bounds net intergreens) (past_of net arriving (standing_by lines) end) end }
+        → AreWaitsWithin net (wait_bounds net intergreens) (cumulative_under net arriving (signs_by lines) end) end }
     ensures empties { (net : Net) → IsNetwork net → (arriving : ℕ → ℕ → ℕ) (lines : ℕ → List Green)
         → (intergreens : ℕ → ℕ → ℕ) (end : ℕ) → AreWholeLines net intergreens end lines
-        → AreEmptied net intergreens (past_of net arriving (standing_by lines) end) end }
+        → AreEmptied net intergreens (cumulative_under net arriving (signs_by lines) end) end }
 {}

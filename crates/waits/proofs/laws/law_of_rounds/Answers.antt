@@ -1,4 +1,5 @@
-use Rattle.waits.proofs.Rounds.{kept, lawful-still}
+use Rattle.control_flow.proofs.RecallLaws.{lawful-still}
+use Rattle.waits.proofs.Rounds.{kept}
 use Rattle.waits.proofs.laws.law_of_rounds.Goals as goal
 
 pub returns-clause-rounds : goal.returns-clause-rounds

@@ -1,4 +1,4 @@
--- From the round on in which a phase has no mark any more it is green within a turn.
+-- From the round on in which a phase is recalled it is green within a turn.
 use Rattle.std.proofs.Common.{◌≡◌, ℕ, zero, suc, ◌+◌, ◌-◌, ◌<◌, ◌≤◌, Bool, true, cond, leb, ltb, ◌&&◌, ◌==◌, IsTrue, List, [], ◌∷◌, ◌++◌, length, All, Some, refl, sym, ap, subst, ◌∙◌, inl, inr, arith, length-append}
 use Rattle.std.specs.Option.{option_map}
 use Rattle.std.proofs.lemmas.Bool.{cases_lt, cond_below, or_right}
@@ -12,10 +12,12 @@ use Rattle.control_flow.specs.Greens.{GoesOn, IsGreen, IsLawful, covers, end_of,
 use Rattle.control_flow.specs.declared.greens.Green.{Green}
 use Rattle.control_flow.proofs.RowLaws.{end_of-last, lawful-tail, row_after-some}
 use Rattle.control_flow.proofs.SpliceLaws.{IsRowOf, continued, row-of-head}
-use Rattle.waits.specs.Rounds.{AreRounds, without_marks}
+use Rattle.control_flow.specs.Recalls.{recalled}
+use Rattle.waits.specs.Rounds.{AreRounds}
 use Rattle.waits.specs.Waits.{IsGreenBy, AreIntergreensWithin, longest_way}
 use Rattle.waits.proofs.Intergreens.{first-from, kept-more, kept-none, past-row, spliced-intergreens}
-use Rattle.waits.proofs.Rounds.{kept, without_marks-at}
+use Rattle.control_flow.proofs.RecallLaws.{recalled-at}
+use Rattle.waits.proofs.Rounds.{kept}
 use Rattle.waits.proofs.Turns.{within}
 
 -- rows that have ended by a second
@@ -57,7 +59,7 @@ past-later now later [] h past = All-nil (λ (r : Green). r.to ≤ later)
 past-later now later (r ∷ rs) h past =
     All-cons (λ (g : Green). g.to ≤ later) r rs (omega (arith, h, All-head (λ (g : Green). g.to ≤ now) r rs past)) (past-later now later rs h (All-tail (λ (g : Green). g.to ≤ now) r rs past))
 
--- a line whose back, from a row on that begins at a second, is lawful where the phases are without_marks; what is before it has ended
+-- a line whose back, from a row on that begins at a second, is lawful where the phases are recalled; what is before it has ended
 record IsParted (plan free : List Phase) (intergreen : ℕ → ℕ) (now from : ℕ) (line : List Green) : Type 0 where
   front : List Green
   back : List Green
@@ -68,14 +70,14 @@ record IsParted (plan free : List Phase) (intergreen : ℕ → ℕ) (now from : 
   some : 0 < length back
   starts : (row_at back 0).from ≡ from
 
-module _ (plan : List Phase) (calls : ℕ → Bool) (p : IsPlan plan) (q : IsPlan (without_marks plan calls)) (intergreen : ℕ → ℕ) where
+module _ (plan : List Phase) (calls : ℕ → Bool) (p : IsPlan plan) (q : IsPlan (recalled plan calls)) (intergreen : ℕ → ℕ) where
   abbrev free : List Phase
-  free = without_marks plan calls
+  free = recalled plan calls
 
   same-head : (now : ℕ) (row : Green) → row.phase < length plan → head_in free now row ≡ head_in plan now row
   same-head now row below =
       ap (λ (loss : ℕ). let h : Head = cond (leb row.from now) (record { phase = row.phase; since = row.from; at = now; fresh = ltb now (row.from + loss) }) (record { phase = row.phase; since = row.from; at = row.from; fresh = true }) in h)
-      (ap (λ (s : Phase). s.loss) (without_marks-at plan calls row.phase below))
+      (ap (λ (s : Phase). s.loss) (recalled-at plan calls row.phase below))
 
   -- the first of these rounds parts the line
   parts : (now : ℕ) (old : List Green) (head : Head) (next : List Green) → IsLawful plan old → head_at plan old now ≡ Some head → GoesOn head next → IsLawful free next → AreIntergreensWithin intergreen next
@@ -117,7 +119,7 @@ module _ (plan : List Phase) (calls : ℕ → Bool) (p : IsPlan plan) (q : IsPla
       }
 
   module _ (rounds : ℕ) (begins : ℕ → ℕ) (line : ℕ → List Green) (are : AreRounds plan intergreen rounds begins line) (rises : (r s : ℕ) → r ≤ s → begins r ≤ begins s)
-      (first : ℕ) (less : first < rounds) (freely : (r : ℕ) (inside : r < rounds) → first ≤ r → IsLawful (without_marks plan calls) (are.each r inside).next) where
+      (first : ℕ) (less : first < rounds) (freely : (r : ℕ) (inside : r < rounds) → first ≤ r → IsLawful (recalled plan calls) (are.each r inside).next) where
     abbrev from : ℕ
     from = (row_at (are.each first less).next 0).from
 
@@ -135,8 +137,8 @@ module _ (plan : List Phase) (calls : ℕ → Bool) (p : IsPlan plan) (q : IsPla
         subst (λ (s : ℕ). IsParted plan free intergreen (begins first) from (line s)) (sym e)
         (subst (IsParted plan free intergreen (begins first) from) (sym one.line) (goes-on (begins first) (begins r) from (line r) one.head one.next (rises first r (omega arith)) (kept plan p intergreen rounds begins line are r (omega (arith, inside))).0 one.at one.goes (freely r inside (omega arith)) one.intergreens (parted d (omega (arith, most)))))
 
-    pub recalls : (k : ℕ) → k < length (without_marks plan calls) → is_unmarked_at (without_marks plan calls) k ≡ true → (second : ℕ) → (row_at (are.each first less).next 0).from ≤ second
-        → second + longest_way (without_marks plan calls) intergreen k k < end_of (line rounds) → IsGreenBy (line rounds) k second (second + longest_way (without_marks plan calls) intergreen k k)
+    pub recalls : (k : ℕ) → k < length (recalled plan calls) → is_unmarked_at (recalled plan calls) k ≡ true → (second : ℕ) → (row_at (are.each first less).next 0).from ≤ second
+        → second + longest_way (recalled plan calls) intergreen k k < end_of (line rounds) → IsGreenBy (line rounds) k second (second + longest_way (recalled plan calls) intergreen k k)
     recalls k below marked second begun end =
         let d = rounds - first - 1 in
         let e : first + suc d ≡ rounds = omega (arith, less) in
