@@ -4,7 +4,7 @@ use Rattle.spillback_world.proofs.StoreTextLaws.{refused-row, row-exists, taken-
 use Rattle.spillback_world.proofs.store_texts.StoreReaderRecordTaker.take.Goals as goal
 
 pub add-requires : goal.add-requires
-add-requires c = omega (arith, row-exists c.args.net.now (fields_of c.args.row.now) c.in_ok-row.row c.in_ok-row.ensures, c.requires.come.1.reader.links)
+add-requires c = omega (arith, row-exists c.args.net.now (fields_of c.args.row.now) c.in_ok-row.row c.in_ok-row.ensures, c.requires.come.1.of_rows.links)
 
 pub returns-clause-taken : goal.returns-clause-taken
 returns-clause-taken c = taken-more c.args.net.now (fields_of c.args.row.now) c.args.number c.args.self.now.storages.items c.add.new.self.storages.items c.in_ok-row.row c.in_ok-row.ensures c.add.result c.add.ensures
