@@ -1,4 +1,5 @@
 pub mod Acting
 pub mod Cycles
+pub mod FixedWaits
 pub mod Planning
 pub mod Splices

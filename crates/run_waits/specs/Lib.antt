@@ -1,1 +1,2 @@
+pub mod FixedBounds
 pub use Rattle.waits.specs.Discharges

@@ -1,12 +1,17 @@
 //! Waits under fixed plans.
 ghost use Rattle.std.specs.Prelude.{ℕ, ◌+◌, ◌<◌, ◌≤◌, Contains, List, length};
+ghost use Rattle.control_flow.specs.Greens.{IsLawful};
 ghost use Rattle.fixed_plans.specs.Lines.{cycle_length, fixed_line, rows_of};
 ghost use Rattle.fixed_plans.specs.Rows.{IsFixedPlan};
 ghost use Rattle.fixed_plans.specs.declared.rows.FixedRow.{FixedRow};
 ghost use Rattle.net_parts.specs.Numbers.{Net};
 ghost use Rattle.net_parts.specs.Outline.{plan_at};
+ghost use Rattle.net_simulator.specs.Flow.{cumulative_under};
 ghost use Rattle.net_simulator.specs.Sums.{end_of_run};
+ghost use Rattle.net_simulator.specs.Worlds.{signs_by};
 ghost use Rattle.road_net.specs.Network.{IsNetwork};
+ghost use Rattle.run_waits.specs.FixedBounds.{fixed_bounds};
+ghost use Rattle.waits.specs.Discharges.{AreWaitsWithin};
 ghost use Rattle.waits.specs.Waits.{IsGreenBy};
 
 /// Under a fixed plan each phase that has a row is green within each length of its node's cycle.
@@ -18,4 +23,15 @@ pub fn law_of_cycles()
         → let length = cycle_length (plan_at net node) (rows_of rows node) in
         (second : ℕ) → second ≤ end_of_run net
         → IsGreenBy (fixed_line net rows node) row.phase second (second + length) }
+{}
+
+/// Under a fixed plan each queue of a phase with a row whose green is longer than its start-up loses something within the length of
+/// the cycle and that start-up, where the run goes on as long.
+///
+/// docs/RULES.md, "How long a queue can wait".
+pub fn law_of_fixed_waits()
+    ensures { (net : Net) → IsNetwork net → (rows : List FixedRow) → IsFixedPlan net rows → (arriving : ℕ → ℕ → ℕ)
+        → ((node : ℕ) → node < length net.node_names → IsLawful (plan_at net node) (fixed_line net rows node))
+        → AreWaitsWithin net (fixed_bounds net rows)
+        (cumulative_under net arriving (signs_by (fixed_line net rows)) (end_of_run net)) (end_of_run net) }
 {}
