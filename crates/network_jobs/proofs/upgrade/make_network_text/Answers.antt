@@ -1,8 +1,8 @@
 use Rattle.net_file.proofs.Written.{text-alone}
 use Rattle.network_jobs.proofs.upgrade.make_network_text.Goals as goal
 
-pub text-requires : goal.text-requires
-text-requires g c = text-alone _ _ c.in_ok-network.ensures.text
+pub write_network-requires : goal.write_network-requires
+write_network-requires g c = text-alone _ _ c.in_ok-network.ensures.text
 
 pub returns : goal.returns
 returns g c =
