@@ -80,6 +80,16 @@ class ForecastRow:
 
 
 @dataclass(frozen=True, slots=True)
+class WaitBounds:
+    """Within how many seconds a queue of a phase loses something under plans and under actuated control, or the word why there is no bound."""
+
+    node: str
+    phase: int
+    planned: int | str
+    actuated: int | str
+
+
+@dataclass(frozen=True, slots=True)
 class GridSummary:
     """The run of a grid: how many plans there are and how many are none, the delay that the others plan, and what the world counted."""
 
@@ -140,6 +150,12 @@ def decision(text: TextIO) -> dict[str, list[Any]]:
     return found
 
 
+def wait_bounds(text: TextIO) -> dict[str, list[Any]]:
+    """Of `bounds`: a row for each phase of each node."""
+    rows = [record.fields for record in records_of(text.read())][1:]
+    return {"bounds": [WaitBounds(node, int(phase), *(int(x) if x.isdigit() else x for x in both)) for node, phase, *both in rows]}
+
+
 def summary(text: TextIO) -> dict[str, list[Any]]:
     """Of `grid`: one row."""
     numbers = [int(word) for line in text for word in line.split()[1:]]
@@ -152,5 +168,6 @@ READERS: dict[str, Callable[[TextIO], dict[str, list[Any]]]] = {
     "spill": store_totals,
     "plan": best_answer,
     "decide": decision,
+    "bounds": wait_bounds,
     "grid": summary,
 }

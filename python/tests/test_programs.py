@@ -6,7 +6,7 @@ import unittest
 from unittest import mock
 
 from kolvunh import Fault, run
-from kolvunh.answers import BestAnswer, ControllerTotals, DecidedGreen, DecidedPlan, ForecastRow, ForecastVersion, GridSummary, StoreTotals
+from kolvunh.answers import BestAnswer, ControllerTotals, DecidedGreen, DecidedPlan, ForecastRow, ForecastVersion, GridSummary, StoreTotals, WaitBounds
 from kolvunh.queues import Most
 from kolvunh.reports import Green, Totals
 
@@ -73,6 +73,12 @@ class ProgramsTest(FilesTest):
         found = self.tables("grid", "grid 7 3 20\nplans 180\nnone 0\ndelay 24978918\ntotal 119000 35990 83010 1357203\n")
         self.assertEqual(found["summary"], [GridSummary(7, 3, 20, 180, 0, 24978918, 119000, 35990, 83010, 1357203)])
         self.assertEqual(self.tables("certify", worked.CERTIFICATE), {})
+
+    def test_bounds(self):
+        found = self.tables("bounds", block("Bounds of waits"))
+        self.assertEqual(found["bounds"][3], WaitBounds("b", 1, 93, 43))
+        found = self.tables("bounds", "node,phase,planned,actuated\na,1,short,short\n")
+        self.assertEqual(found["bounds"], [WaitBounds("a", 1, "short", "short")])
 
     def test_refusals(self):
         wrong = self.file(worked.NETWORK.replace("share = 500 }, {", "share = 400 }, {"), "net.toml")

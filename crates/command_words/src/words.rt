@@ -128,6 +128,10 @@ pub enum Command<'a> {
     Upgrade {
         net: &'a str,
     },
+    /// Writes how long the queues of each phase of a network can wait.
+    Bounds {
+        net: &'a str,
+    },
 }
 
 /// The command that the words are.
@@ -162,6 +166,9 @@ pub fn command_of(words: &[Text]) -> Option<Command<'_>>
             })
         }
         "upgrade" => Some(Command::Upgrade {
+            net: only_word(rest)?,
+        }),
+        "bounds" => Some(Command::Bounds {
             net: only_word(rest)?,
         }),
         _ => network_command(word.as_str(), rest),

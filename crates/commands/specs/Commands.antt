@@ -21,8 +21,9 @@ use Rattle.net_simulator.specs.Worlds.{line_in}
 use Rattle.queue_series.specs.Series.{IsSeries}
 use Rattle.net_file.specs.Upgrade.{IsUpgraded}
 use Rattle.signal_safety.specs.Safe.{IsSafe}
-use Rattle.command_words.specs.Calls.{Actuate, Audit, Call, Certify, CertifyBound, CertifyPar, Check, Compare, CompareFixed, Decide, DecideNode, Fixed, Grid, Instance, Net, Plan, Queues, Replay, Scale, Spill, Turns, Upgrade}
+use Rattle.command_words.specs.Calls.{Actuate, Audit, Bounds, Call, Certify, CertifyBound, CertifyPar, Check, Compare, CompareFixed, Decide, DecideNode, Fixed, Grid, Instance, Net, Plan, Queues, Replay, Scale, Spill, Turns, Upgrade}
 use Rattle.commands.specs.Answers.{answer_text}
+use Rattle.commands.specs.Bounds.{bounds_text}
 use Rattle.commands.specs.Controllers.{BringTooMuch, IsActuatedReport, IsComparison, IsComparisonWith, IsFixedReport, IsScaleTable, factors}
 use Rattle.commands.specs.Headline.{Headline, IsGridSummary, IsPlannedText, ToldHeadline}
 use Rattle.commands.specs.Kinds.{ArrivalsText, CertificateText, HistoryText, InstanceText, IsCertificateText, NetworkText, PlanText, SheetText, StateText, StoreText}
@@ -57,6 +58,7 @@ texts_of (Audit net arr report) = three_texts SheetText net arr report
 texts_of (Queues net arr report) = three_texts SheetText net arr report
 texts_of (Grid number side rounds) = NoMore
 texts_of (Upgrade net) = Next NetworkText net (λ network. NoMore)
+texts_of (Bounds net) = Next NetworkText net (λ network. NoMore)
 
 -- These bytes are a certificate's text that `check` accepts: the text is within the limit, and is the text of this certificate and no
 -- other; and the certificate proves its answer.
@@ -99,6 +101,7 @@ IsTextOf (Queues net arr report) said bytes =
     × IsSeries said.0 (cumulative_of_lines said.0 said.1.0 said.1.1.0.lines) (end_of_run said.0) bytes
 IsTextOf (Grid number side rounds) said bytes = IsGridSummary number side rounds bytes
 IsTextOf (Upgrade net) said bytes = IsUpgraded bytes said.0
+IsTextOf (Bounds net) said bytes = bytes ≡ bounds_text said.0
 
 -- the verdict of a command goes against its texts; only `check`, `audit` and `queues` judge
 abbrev pub IsAgainst : (call : Call) → AllSaid (texts_of call) → Type 0

@@ -1,7 +1,10 @@
 //! The commands over a network: the report of the turn order's run, that of a history's run, and that of a run in threads; the
-//! instance that a node planned in a run; the summary of a run on a grid; and a network as a file of version 2.
+//! instance that a node planned in a run; the summary of a run on a grid; a network as a file of version 2; and how long its
+//! queues can wait.
 #![tactic(auto)]
 
+mod bounds;
+mod bounds_text;
 mod calls;
 mod grid;
 mod history_runs;
@@ -14,6 +17,7 @@ mod summary;
 mod turns;
 mod upgrade;
 
+pub use bounds::bounds_job;
 pub use grid::grid_job;
 pub use instance::instance_job;
 pub use laws::{law_of_instances, law_of_replays};

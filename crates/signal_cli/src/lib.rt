@@ -11,7 +11,9 @@ pub use controller_jobs::{
     actuate_job, compare_fixed_job, compare_job, decide_job, decide_node_job, fixed_job, scale_job,
     spill_job,
 };
-pub use network_jobs::{grid_job, instance_job, net_job, replay_job, turns_job, upgrade_job};
+pub use network_jobs::{
+    bounds_job, grid_job, instance_job, net_job, replay_job, turns_job, upgrade_job,
+};
 pub use planner_jobs::{
     certify_bound_job, certify_job, certify_par_job, check_job, law_of_whole_certificates, plan_job,
 };

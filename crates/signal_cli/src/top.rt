@@ -14,7 +14,9 @@ use controller_jobs::{
     spill_job,
 };
 use foundation::text::Text;
-use network_jobs::{grid_job, instance_job, net_job, replay_job, turns_job, upgrade_job};
+use network_jobs::{
+    bounds_job, grid_job, instance_job, net_job, replay_job, turns_job, upgrade_job,
+};
 use outside_world::{Shelf, Sink};
 use planner_jobs::{certify_bound_job, certify_job, certify_par_job, check_job, plan_job};
 use std::alloc::Global;
@@ -105,6 +107,7 @@ fn run<R: Threads + Wait + Sync, S: Shelf, O: Sink, E: Sink, G: Gate + Sync>(
             rounds,
         } => grid_job(alloc, number, side, rounds, out, err),
         Command::Upgrade { net } => upgrade_job(alloc, net, shelf, out, err),
+        Command::Bounds { net } => bounds_job(alloc, net, shelf, out, err),
     }
 }
 

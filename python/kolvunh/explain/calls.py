@@ -29,6 +29,7 @@ FORMS: dict[str, tuple[str, ...]] = {
     "audit": ("NET ARR REPORT",),
     "queues": ("NET ARR REPORT",),
     "upgrade": ("NET",),
+    "bounds": ("NET",),
     "grid": ("NUMBER SIDE ROUNDS",),
 }
 BOUNDS = {

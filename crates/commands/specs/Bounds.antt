@@ -1,0 +1,33 @@
+-- The text of how long queues can wait.
+use Rattle.std.specs.Prelude.{ℕ, List, [], ◌∷◌, Result, Ok, Err, codes, length, map}
+use Rattle.std.specs.Fmt.{decimal}
+use Rattle.std.specs.List.{flat_map, range_with_len}
+use Rattle.net_parts.specs.Numbers.{Net}
+use Rattle.net_parts.specs.Outline.{node_name_at, plan_at}
+use Rattle.waits.specs.Bounds.{phase_bounds}
+use Rattle.waits.specs.declared.bounds.NoBound.{NoBound}
+use Rattle.waits.specs.declared.bounds.NoBound.TheVariants.{Marked, ShortGreen}
+use Rattle.waits.specs.declared.bounds.PhaseBounds.{PhaseBounds}
+use Rattle.world_records.specs.Records.{records_text}
+
+-- a field: within how many seconds each queue of a phase loses something, or why there is no such bound
+abbrev pub bound_field : Result ℕ NoBound → List ℕ
+bound_field (Ok seconds) = decimal seconds
+bound_field (Err Marked) = codes "marked"
+bound_field (Err ShortGreen) = codes "short"
+
+-- the record of the bounds of a phase: the node by its name, the phase, and the bound where the nodes plan and that under actuated control
+abbrev pub bound_record : Net → PhaseBounds → List (List ℕ)
+bound_record net bounds = node_name_at net bounds.node ∷ decimal bounds.phase ∷ bound_field bounds.planned ∷ bound_field bounds.actuated ∷ []
+
+-- the records of the bounds of a node's phases
+abbrev pub bound_records : Net → ℕ → List (List (List ℕ))
+bound_records net node = map (λ k. bound_record net (phase_bounds net node k)) (range_with_len 0 (length (plan_at net node)))
+
+-- the header of this text
+abbrev pub header : List (List ℕ)
+header = codes "node" ∷ codes "phase" ∷ codes "planned" ∷ codes "actuated" ∷ []
+
+-- the text: a record for each phase of each node, in the order of the network's file
+abbrev pub bounds_text : Net → List ℕ
+bounds_text net = records_text (header ∷ flat_map (bound_records net) (range_with_len 0 (length net.node_names)))
