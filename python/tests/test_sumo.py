@@ -8,7 +8,7 @@ import unittest
 from collections import Counter
 from pathlib import Path
 
-from kolvunh.sumo.layout import Layout, read_places, read_tables, state_at
+from kolvunh.sumo.layout import SUMO_HOME, Layout, read_places, read_tables, state_at
 from kolvunh.sumo.loop import Loop, run_loop
 from kolvunh.sumo.measures import differences, outcome, run_words
 from kolvunh.sumo.to_sumo import convert, element, report_programs, write_routes
@@ -17,10 +17,11 @@ from .worked import EXAMPLES, ROOT
 
 HERE = ROOT / "tools/sumo"
 CORRIDOR = read_tables(EXAMPLES / "corridor.toml")
+# The greens of `turns` on the corridor.
 GREENS = {
-    "first": [(0, 0, 23), (1, 28, 35), (0, 40, 64), (1, 69, 77), (0, 82, 122)],
-    "second": [(0, 0, 9), (1, 14, 27), (0, 32, 50), (1, 55, 63), (0, 68, 108), (1, 113, 118)],
-    "third": [(0, 0, 21), (1, 26, 31), (0, 36, 76), (1, 81, 89), (0, 94, 130)],
+    "first": [(0, 0, 23), (1, 28, 35), (0, 40, 64), (1, 69, 77), (0, 82, 103), (1, 108, 114), (0, 119, 159)],
+    "second": [(0, 0, 9), (1, 14, 27), (0, 32, 50), (1, 55, 63), (0, 68, 81), (1, 86, 94), (0, 99, 132)],
+    "third": [(0, 0, 21), (1, 26, 31), (0, 36, 59), (1, 64, 70), (0, 75, 99), (1, 104, 110), (0, 115, 150)],
 }
 
 
@@ -98,6 +99,15 @@ class SumoTest(unittest.TestCase):
         found = list(differences(self.folder, "replay", 1, signals, other))
         self.assertEqual(found, [(9, "second"), (12, "second")])
 
+    def test_vehicles_that_stop_and_start_at_once(self):
+        """They lose what the vehicles of the rules lose under the same greens, 418.8 seconds for 49, within a second each."""
+        signals = self.corridor()
+        write_routes(signals.layout, EXAMPLES / "corridor.csv", 1, self.folder / "routes.1.rou.xml", at_once=True)
+        (self.folder / "report.add.xml").write_text(element("additional", report_programs(signals, GREENS)))
+        subprocess.run(run_words(self.folder, "once", 1, signals, [self.folder / "report.add.xml"]), check=True, capture_output=True)
+        self.assertAlmostEqual(outcome(self.folder, "once", 1).time_loss, 418.8 / 49, delta=1)
+
+    @unittest.skipUnless((Path(SUMO_HOME) / "tools/traci").is_dir(), "SUMO's tools are not installed")
     def test_greens_in_the_loop(self):
         signals = self.corridor()
         lines = run_loop(signals, ring_answer, run_words(self.folder, "loop", 1, signals))

@@ -1,12 +1,12 @@
 """Runs a network in SUMO under several controllers, with several seeds each, and prints a Markdown table of means and spreads.
 
-    tools/sumo/compare_sumo.py NET PLACES ARR DIR [--seeds N] [--controllers NAME ..] [--program WORDS] [--jobs N]
+    tools/sumo/compare_sumo.py NET PLACES ARR DIR [--seeds N] [--at-once] [--controllers NAME ..] [--program WORDS] [--jobs N]
 
 The controllers: `decide`, the program in the loop (loop.py); `turns` and `actuate`, the greens of the program's reports
 replayed; and SUMO's own `actuated` and `delay_based`, within the least and greatest greens of the network, and `fixed`, the
 plan that SUMO's tools make of the vehicles that come (tlsCycleAdaptation.py, and tlsCoordinator.py where there are several
-nodes). A seed draws the turns of the vehicles and SUMO's drivers. The seconds in which SUMO showed something else than the
-greens are counted. Nothing here is proved.
+nodes). A seed draws the turns of the vehicles and SUMO's drivers; with --at-once these stop and start at once. The seconds in
+which SUMO showed something else than the greens are counted. Nothing here is proved.
 """
 
 import shlex
@@ -104,6 +104,7 @@ def work() -> None:
     for name in ("network", "places", "arrivals", "folder"):
         parser.add_argument(name, type=Path)
     parser.add_argument("--seeds", type=int, default=3)
+    parser.add_argument("--at-once", action="store_true", help="vehicles stop and start at once")
     parser.add_argument("--controllers", nargs="+", choices=CONTROLLERS, default=CONTROLLERS, metavar="NAME")
     parser.add_argument("--program", type=shlex.split, help="its words before the command; the built program if left out")
     parser.add_argument("--jobs", type=int, default=2, help="runs side by side")
@@ -112,7 +113,8 @@ def work() -> None:
     signals = convert(read_tables(options.network), read_places(options.places), options.folder)
     seeds = range(1, options.seeds + 1)
     for seed in seeds:
-        write_routes(signals.layout, options.arrivals, seed, options.folder / f"routes.{seed}.rou.xml")
+        path = options.folder / f"routes.{seed}.rou.xml"
+        write_routes(signals.layout, options.arrivals, seed, path, options.at_once)
     reports = {name: report_greens(options, name) for name in REPORTED if name in options.controllers}
     tasks = [(name, seed) for name in options.controllers for seed in seeds]
     with ProcessPoolExecutor(options.jobs) as runs:

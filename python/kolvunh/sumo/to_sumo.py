@@ -1,13 +1,14 @@
 """Makes SUMO's files from a network file: DIR/net.net.xml, and with the options routes and signal programs.
 
-    tools/sumo/to_sumo.py NET PLACES DIR [--arrivals ARR [--seed N]] [--report REPORT]
+    tools/sumo/to_sumo.py NET PLACES DIR [--arrivals ARR [--seed N] [--at-once]] [--report REPORT]
 
 PLACES is a CSV with the header `kind,name,x,y`, in metres: rows `node,NAME,x,y` for each node, and `link,NAME,x,y` for the
 open end of each link that enters or leaves the network. Open ends at one place are lanes of one road. With `-` in its stead
 the nodes stand in a line from west to east, in the order of the file. Lengths come from the `travel` of the links, and not
 from the places.
 
-The vehicles of ARR become DIR/routes.N.rou.xml, their turns drawn from the number N; the greens of REPORT become
+The vehicles of ARR become DIR/routes.N.rou.xml, their turns drawn from the number N; with --at-once they stop and start at once, as
+the rules of the world have it, and from a stand only after the start-up loss. The greens of REPORT become
 DIR/report.add.xml. Crossings in SUMO's network that the file does not declare as conflicts are listed on standard error.
 Nothing here is proved.
 """
@@ -23,6 +24,8 @@ from ..faults import Fault
 from .layout import SPEED, Layout, Signals, read_greens, read_tables, read_places, vehicles
 
 RING_GREEN = 20  # seconds of each green of a ring that turns without vehicles, where the plan allows it
+# Vehicles that stop and start at once, in metres and seconds: within a second they stand or drive at full speed.
+AT_ONCE = {"accel": 20, "decel": 20, "emergencyDecel": 20, "tau": 1, "minGap": 0.5, "sigma": 0, "speedFactor": 1, "speedDev": 0}
 
 
 def element(name, inside="", **attributes):
@@ -118,7 +121,13 @@ def report_programs(signals, greens):
     )
 
 
-def write_routes(layout, arrivals, seed, path):
+def at_once_type(layout):
+    """SUMO's type of vehicles that stop and start at once, and from a stand after the greatest loss of the network's phases."""
+    loss = max(phase["loss"] for node in layout.nodes.values() for phase in node["phase"])
+    return element("vType", id="DEFAULT_VEHTYPE", startupDelay=loss, **AT_ONCE)
+
+
+def write_routes(layout, arrivals, seed, path, at_once=False):
     rows = "".join(
         element(
             "vehicle",
@@ -130,7 +139,7 @@ def write_routes(layout, arrivals, seed, path):
         )
         for number, (second, way) in enumerate(vehicles(layout, arrivals, seed))
     )
-    path.write_text(element("routes", "\n" + rows))
+    path.write_text(element("routes", "\n" + (at_once_type(layout) if at_once else "") + rows))
 
 
 def convert(network, places, folder):
@@ -156,13 +165,15 @@ def work() -> None:
         parser.add_argument(name, type=Path)
     parser.add_argument("--arrivals", type=Path)
     parser.add_argument("--seed", type=int, default=1)
+    parser.add_argument("--at-once", action="store_true", help="vehicles stop and start at once")
     parser.add_argument("--report", type=Path)
     options = parser.parse_args()
     signals = convert(read_tables(options.network), read_places(options.places), options.folder)
     for node, one, other in signals.undeclared_crossings():
         print(f"{node}: {one} and {other} cross, and are in no conflict", file=sys.stderr)
     if options.arrivals:
-        write_routes(signals.layout, options.arrivals, options.seed, options.folder / f"routes.{options.seed}.rou.xml")
+        path = options.folder / f"routes.{options.seed}.rou.xml"
+        write_routes(signals.layout, options.arrivals, options.seed, path, options.at_once)
     if options.report:
         programs = report_programs(signals, read_greens(options.report))
         (options.folder / "report.add.xml").write_text(element("additional", "\n" + programs))
