@@ -1,4 +1,4 @@
-use Rattle.std.proofs.Common.{ℕ, length, ap, subst, ◌∷◌, [], arith}
+use Rattle.std.proofs.Common.{length, ap, subst, ◌∷◌, [], arith}
 use Rattle.world_records.specs.Written.{Adds}
 use Rattle.world_records.proofs.WrittenLaws.{adds-next, adds-numbers}
 use Rattle.net_parts.specs.Outline.{plan_at}
