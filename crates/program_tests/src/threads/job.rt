@@ -1,6 +1,6 @@
 //! The command `net`.
 use super::copies::{network_of_copies, vehicles_of_copies};
-use super::pairs::{COPIES, MET, PAIRS};
+use super::pairs::{COPIES, MET, PAIRS, gate_of};
 use crate::gates::meeting::MeetingGate;
 use crate::program::calls::file;
 use commands::Status;
@@ -51,12 +51,12 @@ fn has_plans(report: &[u8]) -> bool {
 
 #[test]
 fn two_reads_inside_the_command(rt: HostRuntime) -> Result<(), Fail> {
-    for (number, &(place, [first, second])) in PAIRS.iter().enumerate() {
-        let gate = MeetingGate::new(place, first, second);
+    for (place, &[first, second]) in PAIRS.iter().enumerate() {
+        let gate = gate_of(first, second);
         let (status, out) = ending(&rt, rt.alloc(), &gate)?;
         assert!(rt; status == Status::Done);
-        assert_eq!(rt; gate.met(), MET, "pair {number}");
-        assert!(rt; number > 0 || has_plans(out.bytes()));
+        assert_eq!(rt; gate.met(), MET, "pair {place}");
+        assert!(rt; place > 0 || has_plans(out.bytes()));
     }
     Ok(())
 }

@@ -1,20 +1,30 @@
 //! The pairs of nodes that have to be at their readings at the same time, in a network of five copies of the worked one.
-use crate::gates::meeting::Place;
+use crate::gates::meeting::{MeetingGate, Place};
 
 /// How many copies the network has.
 pub(crate) const COPIES: u32 = 5;
 
-/// Two nodes, each with the link that it reads, and where their readings meet.
+/// Two nodes of one copy, or of two, each with the link that it reads.
+pub(crate) const PAIRS: &[[(u32, u32); 2]] = &[
+    [(0, 2), (1, 1)],
+    [(2, 7), (3, 6)],
+    [(8, 22), (9, 21)],
+    [(0, 2), (9, 21)],
+    [(3, 6), (6, 17)],
+];
+
+/// The gate in which two nodes meet, each with the link that it reads.
 ///
 /// Those of one copy meet while both hold a turn. Those of two copies meet before they do: where there are two threads, the other one
 /// may be at a third node, which waits for a turn that one of the two holds, and then the second of them is at its reading only after the first.
-pub(crate) const PAIRS: &[(Place, [(u32, u32); 2])] = &[
-    (Place::Inside, [(0, 2), (1, 1)]),
-    (Place::Inside, [(2, 7), (3, 6)]),
-    (Place::Inside, [(8, 22), (9, 21)]),
-    (Place::Before, [(0, 2), (9, 21)]),
-    (Place::Before, [(3, 6), (6, 17)]),
-];
+pub(crate) fn gate_of(first: (u32, u32), second: (u32, u32)) -> MeetingGate {
+    let place = if first.0 / 2 == second.0 / 2 {
+        Place::Inside
+    } else {
+        Place::Before
+    };
+    MeetingGate::new(place, first, second)
+}
 
 /// What the gate has met after four rounds: each node's reading in each round, none in vain, and all board steps announced.
 pub(crate) const MET: [u64; 4] = [4, 4, 0, 16];

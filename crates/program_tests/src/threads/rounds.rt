@@ -4,7 +4,7 @@ ghost use Rattle.arrivals.specs.Amounts.{AreArrivals};
 ghost use Rattle.link_boards.specs.Passes.{AreAllPasses, fresh_passes};
 
 use super::copies::{network_of_copies, vehicles_of_copies};
-use super::pairs::{COPIES, MET, PAIRS};
+use super::pairs::{COPIES, MET, PAIRS, gate_of};
 use crate::gates::meeting::MeetingGate;
 use arrivals::{Arrivals, read_arrivals};
 use forward_dp::LayerPlanner;
@@ -74,10 +74,10 @@ fn two_reads_inside(rt: HostRuntime) -> Result<(), Fail> {
     let alloc = rt.alloc();
     let net = network_of(alloc, network_of_copies(alloc, COPIES)?.as_str())?;
     let arrivals = read_arrivals(alloc, vehicles_of_copies(alloc, COPIES)?.as_bytes(), &net)?;
-    for (number, &(place, [first, second])) in PAIRS.iter().enumerate() {
-        let gate = MeetingGate::new(place, first, second);
+    for (place, &[first, second]) in PAIRS.iter().enumerate() {
+        let gate = gate_of(first, second);
         let entered = play_anew(&rt, &gate, alloc, &net, &arrivals)?;
-        assert_eq!(rt; gate.met(), MET, "pair {number}");
+        assert_eq!(rt; gate.met(), MET, "pair {place}");
         assert!(rt; entered == 5000);
     }
     Ok(())

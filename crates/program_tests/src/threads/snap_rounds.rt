@@ -6,7 +6,7 @@ ghost use Rattle.net_threads.specs.Ends.{AreEndsOf};
 ghost use Rattle.snap_boards.specs.Boards.{shared_of};
 
 use super::copies::{network_of_copies, vehicles_of_copies};
-use super::pairs::{COPIES, MET, PAIRS};
+use super::pairs::{COPIES, MET, PAIRS, gate_of};
 use super::rounds::calls_for;
 use crate::gates::meeting::MeetingGate;
 use arrivals::{Arrivals, read_arrivals};
@@ -75,10 +75,10 @@ fn two_reads_inside_beside_the_writer(rt: HostRuntime) -> Result<(), Fail> {
     let alloc = rt.alloc();
     let net = network_of(alloc, network_of_copies(alloc, COPIES)?.as_str())?;
     let arrivals = read_arrivals(alloc, vehicles_of_copies(alloc, COPIES)?.as_bytes(), &net)?;
-    for (number, &(place, [first, second])) in PAIRS.iter().enumerate() {
-        let gate = MeetingGate::new(place, first, second);
+    for (place, &[first, second]) in PAIRS.iter().enumerate() {
+        let gate = gate_of(first, second);
         let entered = play_anew(&rt, &gate, alloc, &net, &arrivals)?;
-        assert_eq!(rt; gate.met(), MET, "pair {number}");
+        assert_eq!(rt; gate.met(), MET, "pair {place}");
         assert!(rt; entered == 5000);
     }
     Ok(())
