@@ -9,7 +9,7 @@ from collections import Counter
 from pathlib import Path
 
 from kolvunh.sumo.layout import SUMO_HOME, Layout, read_places, read_tables, state_at
-from kolvunh.sumo.loop import Loop, run_loop
+from kolvunh.sumo.loop import Loop, Sensors, run_loop, seconds_to_end
 from kolvunh.sumo.measures import differences, outcome, run_words
 from kolvunh.sumo.to_sumo import convert, element, report_programs, write_routes
 
@@ -23,6 +23,20 @@ GREENS = {
     "second": [(0, 0, 9), (1, 14, 27), (0, 32, 50), (1, 55, 63), (0, 68, 81), (1, 86, 94), (0, 99, 132)],
     "third": [(0, 0, 21), (1, 26, 31), (0, 36, 59), (1, 64, 70), (0, 75, 99), (1, 104, 110), (0, 115, 150)],
 }
+
+
+class ToldSensors(Sensors):
+    """Sensors that are told the vehicles: each by its name, link, speed and way to the stop line."""
+
+    def __init__(self, layout):
+        self._layout, self._queued, self._told = layout, set(), []
+
+    def tell(self, now, *vehicles):
+        self._told = vehicles
+        return self.look(now)
+
+    def vehicles(self):
+        return self._told
 
 
 def ring_answer(state):
@@ -55,6 +69,17 @@ class LayoutTest(unittest.TestCase):
         phases = [{"yellow": 3}, {"yellow": 3}]
         states = [state_at(phases, ["Gr", "rG"], [(0, 0, 5), (1, 10, 15)], second) for second in (4, 5, 7, 8, 10)]
         self.assertEqual(states, ["Gr", "yr", "yr", "rr", "rG"])
+
+    def test_a_queue_that_moves_is_a_queue(self):
+        sensors = ToldSensors(Layout(CORRIDOR))
+        self.assertEqual(sensors.tell(0, ("a", "west_in", 13, 90), ("b", "west_in", 4, 10))[0], Counter(west_in=1))
+        self.assertEqual(sensors.tell(1, ("a", "west_in", 3, 80), ("b", "west_in", 7, 5))[0], Counter(west_in=2))
+        queues, coming = sensors.tell(2, ("a", "west_in", 5, 76), ("b", "first_second", 9, 90))
+        self.assertEqual((queues, list(coming)), (Counter(west_in=1), [("first_second", 2 + seconds_to_end(90, 9))]))
+
+    def test_how_soon_a_vehicle_comes(self):
+        # 90 m at 13.89 m/s are 6.5 s; from a stand 2.7 s go by in speeding up: 13.89 m/s at 2.6 m/s in a second, by half
+        self.assertEqual([seconds_to_end(90, speed) for speed in (13.89, 0, 20)], [6, 9, 6])
 
     def test_a_state(self):
         signals = type("Stub", (), {"layout": Layout(CORRIDOR)})

@@ -2,10 +2,10 @@
 
     tools/sumo/loop.py NET PLACES ARR DIR [--seed N] [--program WORDS]
 
-PLACES is that of to_sumo.py, or `-`. A vehicle of an entry link that is slower than 5 m/s is in the link's queue; any other
-is coming, and reaches the end of its link in free driving. Signals are set second by second. Afterwards what SUMO showed is
-compared with the greens that the program answered: the exit status is 1 where they differ. DIR/greens.csv has these greens
-as a report has them. Nothing here is proved.
+PLACES is that of to_sumo.py, or `-`. A vehicle joins the queue of its entry link in the first second in which it is slower than
+5 m/s there, and is in it until it leaves the link. Any other is coming, and reaches the end of its link as fast as it can
+speed up. Signals are set second by second. Afterwards what SUMO showed is compared with the greens that the program answered:
+the exit status is 1 where they differ. DIR/greens.csv has these greens as a report has them. Nothing here is proved.
 """
 
 import contextlib
@@ -25,7 +25,8 @@ from .measures import differences, outcome, run_words
 from .to_sumo import convert, write_routes
 
 sys.path.append(f"{SUMO_HOME}/tools")
-SLOW = 5  # metres a second, below which a vehicle is in the queue
+SLOW = 5  # metres a second, below which a vehicle joins the queue
+ACCELERATION = 2.6  # metres a second in a second, by which a vehicle speeds up: SUMO's own where a file says no other
 VEHICLE = 1000  # thousandths of a vehicle
 
 
@@ -83,35 +84,43 @@ def asker(program, network, state):
     return ask
 
 
+def seconds_to_end(way, speed):
+    """The whole seconds that a vehicle of this speed takes for this way, in metres, where nothing holds it up."""
+    return int(way / SPEED + max(SPEED - speed, 0) ** 2 / (2 * ACCELERATION * SPEED))
+
+
 class Sensors:
     """SUMO's vehicles on the entry links; one within a junction is at the begin of the link that it comes to."""
 
     def __init__(self, traci, signals):
+        self._queued = set()
         self._traci, self._layout, self._link_of = traci, signals.layout, signals.layout.link_of_lane()
         self._after = signals.junctions.after
         self._length = {lane: traci.lane.getLength(lane) for lane in self._link_of}
 
     def vehicles(self):
-        """The link, the speed and the way to the stop line of each vehicle on an entry link."""
+        """Each vehicle on an entry link, with the link, its speed and its way to the stop line."""
         values = self._traci.constants.VAR_LANE_ID, self._traci.constants.VAR_SPEED, self._traci.constants.VAR_LANEPOSITION
         for vehicle in self._traci.simulation.getDepartedIDList():
             self._traci.vehicle.subscribe(vehicle, values)
-        for found in self._traci.vehicle.getAllSubscriptionResults().values():
+        for vehicle, found in self._traci.vehicle.getAllSubscriptionResults().items():
             lane, speed, place = (found[value] for value in values)
             if lane in self._after:
                 lane, speed, place = self._after[lane], SPEED, 0
             link = self._link_of.get(lane)
             if link is not None and "to" in self._layout.links[link]:
-                yield link, speed, self._length[lane] - place
+                yield vehicle, link, speed, self._length[lane] - place
 
     def look(self, now):
-        """The vehicles in each queue, and how many come to the end of each link in which second."""
-        queues, coming = Counter(), Counter()
-        for link, speed, way in self.vehicles():
-            if speed < SLOW:
+        """The vehicles in each queue, and how many come to the end of each link in which second. It is asked in each second."""
+        queues, coming, queued = Counter(), Counter(), set()
+        for vehicle, link, speed, way in self.vehicles():
+            if speed < SLOW or (vehicle, link) in self._queued:
+                queued.add((vehicle, link))
                 queues[link] += 1
             else:
-                coming[link, now + min(int(way / SPEED), self._layout.links[link]["travel"] - 1)] += 1
+                coming[link, now + min(seconds_to_end(way, speed), self._layout.links[link]["travel"] - 1)] += 1
+        self._queued = queued
         return queues, coming
 
 
