@@ -1,14 +1,15 @@
 //! The bounds of what stands in a draft.
-ghost use Rattle.std.specs.Prelude.{◌≡◌, ◌≤◌, ◌↔◌, OnOk, IfErr, IsTrue, All, length, count_by};
+ghost use Rattle.std.specs.Prelude.{◌≡◌, ◌≤◌, ◌↔◌, OnOk, IfErr, IfSome, IsTrue, All, length, count_by};
 ghost use Rattle.net_parts.specs.Limits.{most_links};
 ghost use Rattle.foundation.specs.Firsts.{IsFirstAt, IsFirstNot, FromOne};
 ghost use Rattle.phase_plan.specs.Phases.{is_unmarked};
 ghost use Rattle.net_build.specs.Outcome.{Checks, HasOptions};
 ghost use Rattle.net_parts.specs.FirstFaults.{IsNodeFault, IsLinkFault, FailsBounds, Refuses};
-ghost use Rattle.net_parts.specs.Bounds.{IsNameByte, IsName, IsActStep, IsRun, HasCounts, HasNodeBounds, HasLinkBounds, IsBoundedPhase, IsBoundedNode, IsBoundedTurn, IsBoundedLink, IsBounded};
+ghost use Rattle.net_parts.specs.Bounds.{IsNameByte, IsName, IsActStep, IsRun, HasCounts, HasNodeBounds, HasYieldBounds, HasWalkBounds, HasLinkBounds, IsBoundedPhase, IsBoundedNode, IsBoundedTurn, IsBoundedLink, IsBounded};
 
 use net_parts::{
-    Draft, DraftLink, DraftNode, DraftPhase, DraftTurn, NetFault, Place, Run, Section,
+    Draft, DraftLink, DraftNode, DraftPhase, DraftTurn, DraftYield, NetFault, Place, Run, Section,
+    Walk,
 };
 
 /// Tests the bounds of a draft. The fault is `Bound` at the first place where one does not hold.
@@ -132,11 +133,11 @@ fn check_phases(phases: &[DraftPhase], item: u32) -> Result<(), NetFault>
     Ok(())
 }
 
-/// Whether the times and the number of links of a phase are as they may be.
+/// Whether the times and the numbers of links of a phase are as they may be.
 fn is_bounded_phase(phase: &DraftPhase) -> bool
     ensures { IsTrue result ↔ IsBoundedPhase phase.now }
 {
-    phase.phase.is_within_bounds() && phase.links.len() <= 16
+    phase.phase.is_within_bounds() && phase.links.len() <= 16 && phase.also.len() <= 16
 }
 
 /// Tests each link, and names the first fault of the first that is out of its bounds.
@@ -172,6 +173,32 @@ fn has_link_bounds(link: &DraftLink) -> bool
         && (1..=5000).contains(&link.sat)
         && (1..=20).contains(&link.weight)
         && link.turns.len() <= 16
+        && has_yields(link)
+        && link.walk.is_none_or(|walk| has_walk_bounds(walk))
+}
+
+/// Whether the links to which a link gives way, where there are any, are as many as they may be, and its discharge then is.
+fn has_yields(link: &DraftLink) -> bool
+    ensures { IsTrue result ↔ IfSome link.now.yields (HasYieldBounds link.now.sat) }
+{
+    match &link.yields {
+        Some(given) => has_yield_bounds(given, link.sat),
+        None => true,
+    }
+}
+
+/// Whether a link of this greatest discharge may give way so.
+fn has_yield_bounds(given: &DraftYield, sat: u32) -> bool
+    ensures { IsTrue result ↔ HasYieldBounds sat given.now }
+{
+    (1..=16).contains(&given.links.len()) && (1..=sat).contains(&given.sat)
+}
+
+/// Whether the seconds of a walk are within their bounds.
+fn has_walk_bounds(walk: Walk) -> bool
+    ensures { IsTrue result ↔ HasWalkBounds walk }
+{
+    (1..=120).contains(&walk.seconds) && walk.cross <= 120
 }
 
 /// Tests each turn, and names the first that is out of its bounds.

@@ -5,18 +5,18 @@ ghost use Rattle.foundation.specs.Firsts.{IsFirstAt, IsFirstNot, FromOne};
 ghost use Rattle.foundation.specs.Options.{each};
 ghost use Rattle.phase_plan.specs.Phases.{is_unmarked};
 ghost use Rattle.net_parts.specs.Bounds.{IsBoundedNode, IsBoundedPhase, IsBounded};
-ghost use Rattle.net_parts.specs.FirstFaults.{IsKnownPhase, IsKnownNode, HasKnownEnds, IsKnownTurn, IsKnownLink, IsKnownConflict, IsUnknownInNode, IsUnknownInLink, IsUnknownFault, FailsNumbers, Refuses};
+ghost use Rattle.net_parts.specs.FirstFaults.{IsKnownPhase, IsKnownNode, HasKnownEnds, HasKnownNames, IsKnownTurn, IsKnownLink, IsKnownConflict, IsUnknownInNode, IsUnknownInLink, IsUnknownFault, FailsNumbers, Refuses};
 ghost use Rattle.net_build.specs.Outcome.{AreAdded, Makes};
 ghost use Rattle.net_parts.specs.Numbers as spec;
-ghost use Rattle.net_parts.specs.Numbers.{Net, number_of, number_if};
+ghost use Rattle.net_parts.specs.Numbers.{Net, number_of, number_if, yield_names, yield_sat};
 ghost use Rattle.net_parts.specs.Parts.{net_of, IsNetOf};
-ghost use Rattle.net_build.specs.Stages.{AreNames, AreTables, net_with};
+ghost use Rattle.net_build.specs.Stages.{AreNames, AreTables, greens_of, phase_greens_of, net_with};
 
 use foundation::items::Items;
 use foundation::text::Text;
 use net_parts::{
-    Draft, DraftConflict, DraftLink, DraftNode, DraftPhase, DraftTurn, Link, Names, NetFault,
-    Parts, Place, Section, Turn, phase_with,
+    Draft, DraftConflict, DraftLink, DraftNode, DraftPhase, DraftTurn, DraftYield, Link, Names,
+    NetFault, Parts, Place, Section, Turn, phase_with,
 };
 use phase_plan::{Phase, PhasePlan};
 use std::alloc::{AllocError, Global};
@@ -33,16 +33,17 @@ pub(crate) fn number_draft(alloc: Global, draft: &Draft) -> Result<Parts, NetFau
 {
     let mut node_names = Names::new(alloc);
     let mut link_names = Names::new(alloc);
-    let (phase_links, lists) = add_all(alloc, draft, &mut node_names, &mut link_names)?;
+    let (phases, lists) = add_all(alloc, draft, &mut node_names, &mut link_names)?;
     Ok(Parts {
         run: draft.run,
         node_names,
         plans: lists.plans,
-        phase_links,
-        also_links: lists.also_links,
+        phase_links: phases.serves,
+        also_links: phases.also,
         link_names,
-        links: lists.links,
-        turns: lists.turns,
+        links: lists.roads.links,
+        turns: lists.roads.turns,
+        yields: lists.roads.yields,
         conflicts: lists.conflicts,
     })
 }
@@ -53,12 +54,13 @@ fn add_all(
     draft: &Draft,
     nodes: &mut Names,
     links: &mut Names,
-) -> Result<(Vec<Items<Items<u32>>>, Lists), NetFault>
+) -> Result<(PhaseLists, Lists), NetFault>
     requires bounded { IsBounded draft.now }
     requires no_nodes { nodes.old ≡ [] }
     requires no_links { links.old ≡ [] }
     ensures names { OnOk result (AreNames draft.now nodes.new links.new) }
-    ensures ok { IfOk result (λ made. spec.numbered draft.now ≡ Some (net_with draft.now made.0.items made.1)) }
+    ensures ok { IfOk result (λ made. spec.numbered draft.now
+        ≡ Some (net_with draft.now made.0.serves.items made.0.also.items made.1)) }
     ensures first { IfErr result (FailsNumbers draft.now) }
 {
     add_node_names(alloc, draft.nodes.as_slice(), nodes)?;
@@ -66,14 +68,27 @@ fn add_all(
     phases_and_lists(alloc, nodes, links, draft)
 }
 
+/// For each phase of each node the links that it serves, and those that it names also.
+#[derive(Drop)]
+struct PhaseLists {
+    serves: Vec<Items<Items<u32>>>,
+    also: Vec<Items<Items<u32>>>,
+}
+
+/// The links, the turns of each, and those to which each gives way.
+#[derive(Drop)]
+struct LinkLists {
+    links: Vec<Link>,
+    turns: Vec<Items<Turn>>,
+    yields: Vec<Items<u32>>,
+}
+
 /// What is numbered by the names and by the links of the phases.
 #[derive(Drop)]
 struct Lists {
-    links: Vec<Link>,
-    turns: Vec<Items<Turn>>,
+    roads: LinkLists,
     conflicts: Vec<(u32, u32)>,
     plans: Vec<PhasePlan>,
-    also_links: Vec<Items<Items<u32>>>,
 }
 
 /// The links of each phase of each node, and all that is numbered after them.
@@ -82,40 +97,38 @@ fn phases_and_lists(
     nodes: &Names,
     links: &Names,
     draft: &Draft,
-) -> Result<(Vec<Items<Items<u32>>>, Lists), NetFault>
+) -> Result<(PhaseLists, Lists), NetFault>
     requires bounds { IsBounded draft.now }
     requires nodes { nodes.now ≡ spec.node_names draft.now }
     requires links { links.now ≡ spec.link_names draft.now }
-    ensures { Makes (λ made. net_with draft.now made.0.items made.1) result (spec.numbered draft.now)
+    ensures { Makes (λ made. net_with draft.now made.0.serves.items made.0.also.items made.1) result (spec.numbered draft.now)
         (λ place. IsUnknownFault draft.now place.part place.item place.sub) }
 {
-    let phase_links = phase_links(alloc, links, draft.nodes.as_slice())?;
+    let greens = greens(alloc, links, draft.nodes.as_slice())?;
     let tables = Tables {
         nodes,
         links,
-        phase_links: phase_links.as_slice(),
+        phase_links: greens.serves.as_slice(),
+        also_links: greens.also.as_slice(),
     };
     let lists = lists_by_names(alloc, &tables, draft)?;
-    Ok((phase_links, lists))
+    Ok((greens, lists))
 }
 
-/// The links with their turns, the conflicts, the plans and the further links of phases, in this order.
+/// The links with what each has, the conflicts and the plans, in this order.
 fn lists_by_names(alloc: Global, names: &Tables, draft: &Draft) -> Result<Lists, NetFault>
     requires bounds { IsBounded draft.now }
-    requires tables { AreTables draft.now names.now.nodes.now names.now.links.now names.now.phase_links.now }
-    ensures { Makes (λ lists. net_with draft.now names.now.phase_links.now lists) result (spec.numbered draft.now)
+    requires tables { AreTables draft.now names.now.nodes.now names.now.links.now names.now.phase_links.now names.now.also_links.now }
+    ensures { Makes (λ lists. net_with draft.now names.now.phase_links.now names.now.also_links.now lists) result (spec.numbered draft.now)
         (λ place. IsUnknownFault draft.now place.part place.item place.sub) }
 {
-    let (links, turns) = roads(alloc, names, draft.links.as_slice())?;
+    let roads = roads(alloc, names, draft.links.as_slice())?;
     let conflicts = conflicts(alloc, names.links, draft.conflicts.as_slice())?;
     let plans = plans(alloc, draft.nodes.as_slice())?;
-    let also_links = also_links(alloc, draft.nodes.as_slice())?;
     Ok(Lists {
-        links,
-        turns,
+        roads,
         conflicts,
         plans,
-        also_links,
     })
 }
 
@@ -190,82 +203,90 @@ fn numbers(alloc: Global, names: &Names, texts: &[Text], place: Place) -> Result
 }
 
 /// The links of each phase of each node.
-fn phase_links(
-    alloc: Global,
-    names: &Names,
-    nodes: &[DraftNode],
-) -> Result<Vec<Items<Items<u32>>>, NetFault>
+#[tactic(auto, unfolding(crate::specs::Stages::greens_of))]
+fn greens(alloc: Global, names: &Names, nodes: &[DraftNode]) -> Result<PhaseLists, NetFault>
     requires few { length nodes.now ≤ 64 }
     requires bounds { All IsBoundedNode nodes.now }
-    ensures { Makes (λ lists. lists.items) result (each (spec.phases_of names.now) nodes.now)
+    ensures { Makes (λ lists. (lists.serves.items, lists.also.items)) result (greens_of names.now nodes.now)
         (λ place. (place.part ≡ Section.Phase)
         × FromOne
         (IsFirstAt (IsKnownNode names.now) (λ n. IsUnknownInNode names.now n place.sub) nodes.now) place.item) }
 {
-    let mut lists = Vec::new(alloc);
+    let mut serves = Vec::new(alloc);
+    let mut also = Vec::new(alloc);
     for (index, node) in nodes.iter().enumerate() {
-        let phases = links_of_phases(alloc, names, node.phases.as_slice(), index as u32 + 1)?;
-        lists.push(Items::from_vec(phases))?;
+        let lists = links_of_phases(alloc, names, node.phases.as_slice(), index as u32 + 1)?;
+        serves.push(Items::from_vec(lists.0))?;
+        also.push(Items::from_vec(lists.1))?;
     }
-    Ok(lists)
+    Ok(PhaseLists { serves, also })
 }
 
-/// The links of each of these phases.
+/// The links of each of these phases: those that it serves, and those that it names also.
+#[tactic(auto, unfolding(crate::specs::Stages::phase_greens_of))]
 fn links_of_phases(
     alloc: Global,
     names: &Names,
     phases: &[DraftPhase],
     item: u32,
-) -> Result<Vec<Items<u32>>, NetFault>
+) -> Result<(Vec<Items<u32>>, Vec<Items<u32>>), NetFault>
     requires { length phases.now ≤ 4 }
-    ensures { Makes (λ lists. lists.items) result (each (λ p. each (number_of names.now) p.links) phases.now)
+    ensures { Makes (λ lists. (lists.0.items, lists.1.items)) result (phase_greens_of names.now phases.now)
         (λ place. (place.part ≡ Section.Phase) × (place.item ≡ item)
         × FromOne (IsFirstNot (IsKnownPhase names.now) phases.now) place.sub) }
 {
-    let mut lists = Vec::new(alloc);
+    let mut serves = Vec::new(alloc);
+    let mut further = Vec::new(alloc);
     for (index, phase) in phases.iter().enumerate() {
         let place = place(Section::Phase, item, index as u32 + 1);
         let links = numbers(alloc, names, phase.links.as_slice(), place)?;
-        lists.push(Items::from_vec(links))?;
+        let also = numbers(alloc, names, phase.also.as_slice(), place)?;
+        serves.push(Items::from_vec(links))?;
+        further.push(Items::from_vec(also))?;
     }
-    Ok(lists)
+    Ok((serves, further))
 }
 
-/// What links are numbered by.
+/// The names, and the links of phases that are numbered by them.
 #[derive(Drop)]
 struct Tables<'a> {
     nodes: &'a Names,
     links: &'a Names,
     phase_links: &'a [Items<Items<u32>>],
+    also_links: &'a [Items<Items<u32>>],
 }
 
-/// The links, and the turns of each.
+/// The links, the turns of each, and those to which each gives way.
 #[tactic(auto, unfolding(net_parts::specs::Numbers::roads_of))]
-fn roads(
-    alloc: Global,
-    names: &Tables,
-    links: &[DraftLink],
-) -> Result<(Vec<Link>, Vec<Items<Turn>>), NetFault>
+fn roads(alloc: Global, names: &Tables, links: &[DraftLink]) -> Result<LinkLists, NetFault>
     requires few { length links.now ≤ most_links }
     requires turns { All (λ l. length l.turns ≤ 16) links.now }
     requires nodes { length names.now.nodes.now ≤ length names.now.phase_links.now }
     requires phases { All (λ phases. length phases ≤ 4) names.now.phase_links.now }
     requires own { All (λ l. Contains names.now.links.now l.name) links.now }
-    ensures { Makes (λ roads. (roads.0.items, roads.1.items)) result
+    ensures { Makes (λ roads. (roads.links.items, roads.turns.items, roads.yields.items)) result
         (spec.roads_of names.now.nodes.now names.now.links.now names.now.phase_links.now links.now)
         (λ place. FromOne (IsFirstAt (IsKnownLink names.now.nodes.now names.now.links.now)
         (λ l. IsUnknownInLink names.now.nodes.now names.now.links.now l place.part place.sub) links.now) place.item) }
 {
     let mut roads = Vec::new(alloc);
     let mut lists = Vec::new(alloc);
+    let mut given = Vec::new(alloc);
     for (index, link) in links.iter().enumerate() {
         let item = index as u32 + 1;
-        let road = road(names, link, place(Section::Link, item, 0))?;
+        let place = place(Section::Link, item, 0);
+        let road = road(names, link, place)?;
+        let yields = yields(alloc, names.links, &link.yields, place)?;
         let turns = turns(alloc, names.links, link.turns.as_slice(), item)?;
         roads.push(road)?;
         lists.push(Items::from_vec(turns))?;
+        given.push(Items::from_vec(yields))?;
     }
-    Ok((roads, lists))
+    Ok(LinkLists {
+        links: roads,
+        turns: lists,
+        yields: given,
+    })
 }
 
 /// A link by numbers.
@@ -288,7 +309,35 @@ fn road(names: &Tables, link: &DraftLink, place: Place) -> Result<Link, NetFault
         sat: link.sat,
         weight: link.weight,
         phase: phase_of(names.phase_links, number, to),
+        yield_sat: sat_of(&link.yields),
+        walk: link.walk,
     })
+}
+
+/// The greatest discharge of a link while one of those to which it gives way is busy; 0 where there is none.
+fn sat_of(yields: &Option<DraftYield>) -> u32
+    ensures { result ≡ yield_sat yields.now }
+{
+    match yields {
+        Some(given) => given.sat,
+        None => 0,
+    }
+}
+
+/// The links to which a link gives way.
+fn yields(
+    alloc: Global,
+    names: &Names,
+    yields: &Option<DraftYield>,
+    place: Place,
+) -> Result<Vec<u32>, NetFault>
+    ensures { Makes (λ numbers. numbers.items) result (each (number_of names.now) (yield_names yields.now))
+        (λ at_fault. (at_fault ≡ place) × ¬ All (Contains names.now) (yield_names yields.now)) }
+{
+    match yields {
+        Some(given) => numbers(alloc, names, given.links.as_slice(), place),
+        None => Ok(Vec::new(alloc)),
+    }
 }
 
 /// The first phase of the node that names the link; 0 where there is no node or no such phase.
@@ -399,29 +448,6 @@ fn plan(alloc: Global, phases: &[DraftPhase]) -> Result<PhasePlan, AllocError>
         Ok(plan) => Ok(plan),
         Err(_) => unreachable!(),
     }
-}
-
-/// The further links of each phase of each node: none.
-fn also_links(alloc: Global, nodes: &[DraftNode]) -> Result<Vec<Items<Items<u32>>>, AllocError>
-    ensures { IfOk result (λ lists. lists.items ≡ map spec.also_of nodes.now) }
-{
-    let mut lists = Vec::new(alloc);
-    for node in nodes {
-        let phases = also_of_phases(alloc, node.phases.as_slice())?;
-        lists.push(Items::from_vec(phases))?;
-    }
-    Ok(lists)
-}
-
-/// The further links of each of these phases: none.
-fn also_of_phases(alloc: Global, phases: &[DraftPhase]) -> Result<Vec<Items<u32>>, AllocError>
-    ensures { IfOk result (λ lists. lists.items ≡ map (λ p. []) phases.now) }
-{
-    let mut lists = Vec::new(alloc);
-    for _phase in phases {
-        lists.push(Items::from_vec(Vec::new(alloc)))?;
-    }
-    Ok(lists)
 }
 
 /// The times of these phases.

@@ -2,7 +2,7 @@
 ghost use Rattle.std.specs.Prelude.{◌≡◌, ◌<◌, IfOk, IfSome, All, length, map, option_map};
 ghost use Rattle.std.specs.List.{range_with_len};
 ghost use Rattle.net_parts.specs.Numbers.{Net};
-ghost use Rattle.net_parts.specs.Outline.{IsOutline, link_at, plan_at, phases_at};
+ghost use Rattle.net_parts.specs.Outline.{IsOutline, link_at, plan_at, phases_at, also_at};
 ghost use Rattle.net_parts.specs.Parts.{net_of};
 ghost use Rattle.net_file.specs.ByNames as spec;
 ghost use Rattle.net_file.specs.ByNames.{name_in, AreNumbers};
@@ -10,7 +10,8 @@ ghost use Rattle.net_file.specs.ByNames.{name_in, AreNumbers};
 use foundation::items::Items;
 use foundation::text::Text;
 use net_parts::{
-    Draft, DraftConflict, DraftLink, DraftNode, DraftPhase, DraftTurn, Names, Parts, Turn,
+    Draft, DraftConflict, DraftLink, DraftNode, DraftPhase, DraftTurn, DraftYield, Names, Parts,
+    Turn,
 };
 use phase_plan::Phase;
 use std::alloc::{AllocError, Global};
@@ -54,7 +55,8 @@ fn node_by_names(alloc: Global, parts: &Parts, n: u32) -> Result<DraftNode, Allo
 {
     let plan = parts.plans[n as usize].phases();
     let lists = parts.phase_links[n as usize].as_slice();
-    let phases = phases_by_names(alloc, &parts.link_names, plan, lists)?;
+    let also = parts.also_links[n as usize].as_slice();
+    let phases = phases_by_names(alloc, &parts.link_names, plan, lists, also)?;
     let name = name_of(alloc, &parts.node_names, n)?;
     Ok(DraftNode {
         name,
@@ -68,18 +70,23 @@ fn phases_by_names(
     names: &Names,
     plan: &[Phase],
     lists: &[Items<u32>],
+    also: &[Items<u32>],
 ) -> Result<Vec<DraftPhase>, AllocError>
     requires count { length lists.now ≡ length plan.now }
+    requires also_count { length also.now ≡ length plan.now }
     requires links { All (AreNumbers names.now) lists.now }
+    requires also { All (AreNumbers names.now) also.now }
     ensures { IfOk result (λ phases. phases.items
-        ≡ map (spec.phase_by_names names.now plan.now lists.now) (range_with_len 0 (length plan.now))) }
+        ≡ map (spec.phase_by_names names.now plan.now lists.now also.now) (range_with_len 0 (length plan.now))) }
 {
     let mut phases = Vec::new(alloc);
     for (k, phase) in plan.iter().enumerate() {
         let links = names_of(alloc, names, lists[k].as_slice())?;
+        let further = names_of(alloc, names, also[k].as_slice())?;
         phases.push(DraftPhase {
             phase: *phase,
             links: Items::from_vec(links),
+            also: Items::from_vec(further),
         })?;
     }
     Ok(phases)
@@ -107,6 +114,7 @@ fn link_by_names(alloc: Global, parts: &Parts, l: u32) -> Result<DraftLink, Allo
 {
     let link = parts.links[l as usize];
     let turns = parts.turns[l as usize].as_slice();
+    let yields = parts.yields[l as usize].as_slice();
     Ok(DraftLink {
         name: name_of(alloc, &parts.link_names, l)?,
         from: name_if(alloc, &parts.node_names, link.from)?,
@@ -114,8 +122,27 @@ fn link_by_names(alloc: Global, parts: &Parts, l: u32) -> Result<DraftLink, Allo
         travel: link.travel,
         sat: link.sat,
         weight: link.weight,
+        yields: yield_by_names(alloc, &parts.link_names, yields, link.yield_sat)?,
+        walk: link.walk,
         turns: Items::from_vec(turns_by_names(alloc, &parts.link_names, turns)?),
     })
+}
+
+/// The links to which a link gives way, where there are any, and its discharge then.
+fn yield_by_names(
+    alloc: Global,
+    names: &Names,
+    yields: &[u32],
+    sat: u32,
+) -> Result<Option<DraftYield>, AllocError>
+    requires { AreNumbers names.now yields.now }
+    ensures { IfOk result (λ given. given ≡ spec.yield_by_names names.now yields.now sat) }
+{
+    if yields.is_empty() {
+        return Ok(None);
+    }
+    let links = Items::from_vec(names_of(alloc, names, yields)?);
+    Ok(Some(DraftYield { links, sat }))
 }
 
 /// The turns of a link.

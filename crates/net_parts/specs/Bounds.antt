@@ -8,6 +8,8 @@ use Rattle.net_parts.specs.declared.drafts.DraftNode.{DraftNode}
 use Rattle.net_parts.specs.declared.drafts.DraftPhase.{DraftPhase}
 use Rattle.net_parts.specs.declared.drafts.DraftLink.{DraftLink}
 use Rattle.net_parts.specs.declared.drafts.DraftTurn.{DraftTurn}
+use Rattle.net_parts.specs.declared.drafts.DraftYield.{DraftYield}
+use Rattle.net_parts.specs.declared.roads.Walk.{Walk}
 
 -- a to z, 0 to 9 and _
 abbrev pub IsNameByte : ℕ → Type 0
@@ -35,10 +37,11 @@ pub record IsRun (run : Run) : Type 0 where
   pub recall : IfSome run.recall (λ recall. (1 ≤ recall) × (recall ≤ 3600))
   pub act_step : IfSome run.act_step (IsActStep run.step)
 
--- a phase and how many links it names
+-- a phase and how many links it names, as served and as green also
 pub record IsBoundedPhase (p : DraftPhase) : Type 0 where
   pub phase : IsPhase p.phase
   pub links : length p.links ≤ 16
+  pub also : length p.also ≤ 16
 
 -- the bounds of a node itself, the times of its phases apart
 pub record HasNodeBounds (n : DraftNode) : Type 0 where
@@ -55,6 +58,16 @@ pub record IsBoundedNode (n : DraftNode) : Type 0 where
 abbrev pub IsBoundedTurn : DraftTurn → Type 0
 IsBoundedTurn t = t.share ≤ 1000
 
+-- how many links a link of this greatest discharge gives way to, and its discharge then
+pub record HasYieldBounds (sat : ℕ) (given : DraftYield) : Type 0 where
+  pub count : (1 ≤ length given.links) × (length given.links ≤ 16)
+  pub sat : (1 ≤ given.sat) × (given.sat ≤ sat)
+
+-- the seconds of a walk
+pub record HasWalkBounds (walk : Walk) : Type 0 where
+  pub seconds : (1 ≤ walk.seconds) × (walk.seconds ≤ 120)
+  pub cross : walk.cross ≤ 120
+
 -- the bounds of a link itself, its turns apart
 pub record HasLinkBounds (l : DraftLink) : Type 0 where
   pub name : IsName l.name
@@ -62,6 +75,8 @@ pub record HasLinkBounds (l : DraftLink) : Type 0 where
   pub sat : (1 ≤ l.sat) × (l.sat ≤ most_sat)
   pub weight : (1 ≤ l.weight) × (l.weight ≤ 20)
   pub count : length l.turns ≤ 16
+  pub yields : IfSome l.yields (HasYieldBounds l.sat)
+  pub walk : IfSome l.walk HasWalkBounds
 
 -- a link with its turns
 pub record IsBoundedLink (l : DraftLink) : Type 0 where

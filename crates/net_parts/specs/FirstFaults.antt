@@ -13,7 +13,7 @@ use Rattle.net_parts.specs.declared.faults.Section.TheVariants.{Top, Run, Node, 
 use Rattle.net_parts.specs.declared.faults.NetFault.{NetFault}
 use Rattle.net_parts.specs.declared.faults.NetFault.TheVariants.{NoMemory, NotToml, Shape, Bound, Twice, Unknown}
 use Rattle.net_parts.specs.Bounds.{HasCounts, HasNodeBounds, HasLinkBounds, IsRun, IsBoundedPhase, IsBoundedNode, IsBoundedTurn, IsBoundedLink}
-use Rattle.net_parts.specs.Numbers.{AreDistinct, node_names, link_names}
+use Rattle.net_parts.specs.Numbers.{AreDistinct, node_names, link_names, yield_names}
 
 -- the first fault within a node: of its own bounds, or else of its first phase out of bounds
 abbrev pub IsNodeFault : DraftNode → Section → ℕ → Type 0
@@ -56,8 +56,9 @@ IsTwiceFault d Link item sub = (sub ≡ 0) × AreDistinct (node_names d) × From
 IsTwiceFault d _ item sub = ⊥
 
 -- all names that a phase uses are names of links
-abbrev pub IsKnownPhase : List (List ℕ) → DraftPhase → Type 0
-IsKnownPhase links p = All (Contains links) p.links
+pub record IsKnownPhase (links : List (List ℕ)) (p : DraftPhase) : Type 0 where
+  pub links : All (Contains links) p.links
+  pub also : All (Contains links) p.also
 
 -- all that the phases of a node use are
 abbrev pub IsKnownNode : List (List ℕ) → DraftNode → Type 0
@@ -68,13 +69,18 @@ pub record HasKnownEnds (nodes : List (List ℕ)) (l : DraftLink) : Type 0 where
   pub from : IfSome l.from (Contains nodes)
   pub to : IfSome l.to (Contains nodes)
 
+-- a link whose ends, and the links to which it gives way, are there
+pub record HasKnownNames (nodes links : List (List ℕ)) (l : DraftLink) : Type 0 where
+  pub ends : HasKnownEnds nodes l
+  pub yields : All (Contains links) (yield_names l.yields)
+
 -- the turn leads into one of the links
 abbrev pub IsKnownTurn : List (List ℕ) → DraftTurn → Type 0
 IsKnownTurn links t = Contains links t.exit
 
--- a link whose ends and turns name what is there
+-- a link all of whose names, those of its turns too, are there
 pub record IsKnownLink (nodes links : List (List ℕ)) (l : DraftLink) : Type 0 where
-  pub ends : HasKnownEnds nodes l
+  pub own : HasKnownNames nodes links l
   pub turns : All (IsKnownTurn links) l.turns
 
 -- a conflict between two of the links
@@ -86,10 +92,10 @@ pub record IsKnownConflict (links : List (List ℕ)) (c : DraftConflict) : Type 
 abbrev pub IsUnknownInNode : List (List ℕ) → DraftNode → ℕ → Type 0
 IsUnknownInNode links n sub = FromOne (IsFirstNot (IsKnownPhase links) n.phases) sub
 
--- the first fault of a link: one of its ends is no node, or else its first turn into no link
+-- the first fault of a link: one of its ends is no node or it gives way to no link, or else its first turn into no link
 abbrev pub IsUnknownInLink : List (List ℕ) → List (List ℕ) → DraftLink → Section → ℕ → Type 0
-IsUnknownInLink nodes links l Link sub = (sub ≡ 0) × ¬ HasKnownEnds nodes l
-IsUnknownInLink nodes links l Turn sub = HasKnownEnds nodes l × FromOne (IsFirstNot (IsKnownTurn links) l.turns) sub
+IsUnknownInLink nodes links l Link sub = (sub ≡ 0) × ¬ HasKnownNames nodes links l
+IsUnknownInLink nodes links l Turn sub = HasKnownNames nodes links l × FromOne (IsFirstNot (IsKnownTurn links) l.turns) sub
 IsUnknownInLink nodes links l _ sub = ⊥
 
 -- the first place of a draft that uses a name which stands for nothing: all phases come first, then each link with its

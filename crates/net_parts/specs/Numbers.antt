@@ -9,12 +9,13 @@ use Rattle.net_parts.specs.declared.drafts.Draft.{Draft}
 use Rattle.net_parts.specs.declared.drafts.DraftNode.{DraftNode}
 use Rattle.net_parts.specs.declared.drafts.DraftLink.{DraftLink}
 use Rattle.net_parts.specs.declared.drafts.DraftTurn.{DraftTurn}
+use Rattle.net_parts.specs.declared.drafts.DraftYield.{DraftYield}
 use Rattle.net_parts.specs.declared.drafts.DraftConflict.{DraftConflict}
 use Rattle.net_parts.specs.declared.roads.Link.{Link}
 use Rattle.net_parts.specs.declared.roads.Turn.{Turn}
 
 -- The lists have one place for each node, link or conflict. `phase_links` has for each node the links that each of its phases serves, and
--- `also_links` the further ones that are green in it.
+-- `also_links` the further ones that are green in it; `yields` has for each link those to which it gives way.
 pub record Net : Type 0 where
   pub run : Run
   pub node_names : List (List ℕ)
@@ -24,11 +25,12 @@ pub record Net : Type 0 where
   pub link_names : List (List ℕ)
   pub links : List Link
   pub turns : List (List Turn)
+  pub yields : List (List ℕ)
   pub conflicts : List (ℕ × ℕ)
 
 -- what stands where there is no link
 abbrev pub no_link : Link
-no_link = record { from = None; to = None; travel = 0; sat = 0; weight = 0; phase = 0 }
+no_link = record { from = None; to = None; travel = 0; sat = 0; weight = 0; phase = 0; yield_sat = 0; walk = None }
 
 -- no two names are the same
 abbrev pub AreDistinct : List (List ℕ) → Type 0
@@ -58,13 +60,27 @@ phase_of phase_links link (Some node) = unwrap_or (position (has_link link) (sli
 abbrev pub phases_of : List (List ℕ) → DraftNode → Option (List (List ℕ))
 phases_of links node = each (λ p. each (number_of links) p.links) node.phases
 
+-- the further links of each phase of a node
+abbrev pub also_of : List (List ℕ) → DraftNode → Option (List (List ℕ))
+also_of links node = each (λ p. each (number_of links) p.also) node.phases
+
+-- the names of the links to which a link gives way
+abbrev pub yield_names : Option DraftYield → List (List ℕ)
+yield_names None = []
+yield_names (Some given) = given.links
+
+-- its greatest discharge while one of them is busy; 0 where there is none
+abbrev pub yield_sat : Option DraftYield → ℕ
+yield_sat None = 0
+yield_sat (Some given) = given.sat
+
 -- a link by numbers
 unfoldable pub link_of : List (List ℕ) → List (List ℕ) → List (List (List ℕ)) → DraftLink → Option Link
 link_of nodes links phase_links l = do
   from ← number_if nodes l.from
   to ← number_if nodes l.to
   link ← number_of links l.name
-  Some (record { from = from; to = to; travel = l.travel; sat = l.sat; weight = l.weight; phase = phase_of phase_links link to })
+  Some (record { from = from; to = to; travel = l.travel; sat = l.sat; weight = l.weight; phase = phase_of phase_links link to; yield_sat = yield_sat l.yields; walk = l.walk })
 
 -- a turn by numbers
 unfoldable pub turn_of : List (List ℕ) → DraftTurn → Option Turn
@@ -76,12 +92,17 @@ turn_of links t = do
 abbrev pub turns_of : List (List ℕ) → DraftLink → Option (List Turn)
 turns_of links l = each (turn_of links) l.turns
 
--- the links, and the turns of each
-unfoldable pub roads_of : List (List ℕ) → List (List ℕ) → List (List (List ℕ)) → List DraftLink → Option (List Link × List (List Turn))
+-- the links to which a link gives way
+abbrev pub yields_of : List (List ℕ) → DraftLink → Option (List ℕ)
+yields_of links l = each (number_of links) (yield_names l.yields)
+
+-- the links, the turns of each, and those to which each gives way
+unfoldable pub roads_of : List (List ℕ) → List (List ℕ) → List (List (List ℕ)) → List DraftLink → Option (List Link × List (List Turn) × List (List ℕ))
 roads_of nodes links phase_links ls = do
   roads ← each (link_of nodes links phase_links) ls
   turns ← each (turns_of links) ls
-  Some (roads, turns)
+  yields ← each (yields_of links) ls
+  Some (roads, turns, yields)
 
 -- a conflict by numbers
 unfoldable pub conflict_of : List (List ℕ) → DraftConflict → Option (ℕ × ℕ)
@@ -102,14 +123,11 @@ link_names d = map (λ l. l.name) d.links
 abbrev pub plan_of : DraftNode → List Phase
 plan_of n = map (λ p. p.phase) n.phases
 
--- the further links of each phase of a node: none, since a draft names none
-abbrev pub also_of : DraftNode → List (List ℕ)
-also_of n = map (λ p. []) n.phases
-
 -- the draft with numbers for names, where each name that it uses is the name of a node or a link
 unfoldable pub numbered : Draft → Option Net
 numbered d = do
   phase_links ← each (phases_of (link_names d)) d.nodes
+  also_links ← each (also_of (link_names d)) d.nodes
   roads ← roads_of (node_names d) (link_names d) phase_links d.links
   conflicts ← each (conflict_of (link_names d)) d.conflicts
-  Some (record { run = d.run; node_names = node_names d; plans = map plan_of d.nodes; phase_links = phase_links; also_links = map also_of d.nodes; link_names = link_names d; links = roads.0; turns = roads.1; conflicts = conflicts })
+  Some (record { run = d.run; node_names = node_names d; plans = map plan_of d.nodes; phase_links = phase_links; also_links = also_links; link_names = link_names d; links = roads.0; turns = roads.1; yields = roads.2; conflicts = conflicts })

@@ -1,11 +1,11 @@
 -- The parts of a network by number, and how many there are.
-use Rattle.std.specs.Prelude.{◌≡◌, ◌≢◌, ℕ, ◌<◌, ◌≤◌, ◌==◌, Bool, false, ◌||◌, List, [], Option, Some, None, IfSome, length, slice_index_or, All, AllPairs, Contains}
+use Rattle.std.specs.Prelude.{◌≡◌, ℕ, ◌<◌, ◌≤◌, ◌==◌, Bool, false, ◌||◌, List, [], ◌∷◌, Option, Some, None, IfSome, length, slice_index_or, All}
 use Rattle.net_parts.specs.Limits.{most_links, most_sat, most_travel}
 use Rattle.phase_plan.specs.declared.Phase.{Phase}
 use Rattle.phase_plan.specs.Phases.{IsPlan}
 use Rattle.net_parts.specs.declared.roads.Link.{Link}
 use Rattle.net_parts.specs.declared.roads.Turn.{Turn}
-use Rattle.net_parts.specs.Bounds.{IsName, IsRun}
+use Rattle.net_parts.specs.Bounds.{IsName, IsRun, HasWalkBounds}
 use Rattle.net_parts.specs.Numbers.{Net, AreDistinct, has_link, no_link, phase_of}
 
 -- the link with this number
@@ -36,6 +36,10 @@ also_at net n = slice_index_or net.also_links n []
 abbrev pub also_links_at : Net → ℕ → ℕ → List ℕ
 also_links_at net n k = slice_index_or (also_at net n) k []
 
+-- the links to which a link gives way
+abbrev pub yields_at : Net → ℕ → List ℕ
+yields_at net l = slice_index_or net.yields l []
+
 -- Whether a link that ends there is green in phase k of that node: the phase is its home, or names it also. One that ends at no node never is.
 abbrev pub is_green_to : Net → ℕ → ℕ → Option ℕ → Bool
 is_green_to net l k None = false
@@ -64,6 +68,8 @@ pub record IsLink (nodes : ℕ) (l : Link) : Type 0 where
   pub travel : (1 ≤ l.travel) × (l.travel ≤ most_travel)
   pub sat : (1 ≤ l.sat) × (l.sat ≤ most_sat)
   pub weight : (1 ≤ l.weight) × (l.weight ≤ 20)
+  pub yield_sat : l.yield_sat ≤ l.sat
+  pub walk : IfSome l.walk HasWalkBounds
 
 -- turns into a network of this number of links
 pub record AreTurns (links : ℕ) (turns : List Turn) : Type 0 where
@@ -71,18 +77,15 @@ pub record AreTurns (links : ℕ) (turns : List Turn) : Type 0 where
   pub exits : All (λ t. t.exit < links) turns
   pub shares : All (λ t. t.share ≤ 1000) turns
 
--- the links that a phase serves, in a network of this number of links
+-- the links that a phase serves or names also, or to which a link gives way, in a network of this number of links
 pub record ArePhaseLinks (links : ℕ) (numbers : List ℕ) : Type 0 where
   pub count : length numbers ≤ 16
   pub exist : All (λ l. l < links) numbers
 
--- The further links of a phase of a node, beside the links that it serves: each ends at the node, and the phase names no link twice.
-pub record AreAlsoLinks (net : Net) (node : ℕ) (serves also : List ℕ) : Type 0 where
-  pub count : length also ≤ 16
-  pub exist : All (λ l. l < length net.link_names) also
-  pub ends : All (λ l. (link_at net l).to ≡ Some node) also
-  pub differ : AllPairs (λ a b. a ≢ b) also
-  pub further : (l : ℕ) → Contains serves l → Contains also l → ⊥
+-- where a link gives way to these, its discharge then is at least 1; it is 0 where there is none
+abbrev pub IsYieldSat : List ℕ → ℕ → Type 0
+IsYieldSat [] sat = sat ≡ 0
+IsYieldSat (_ ∷ _) sat = 1 ≤ sat
 
 -- The counts and bounds of a network: every list has its place for each node or link, and numbers are those of nodes and links.
 pub record IsOutline (net : Net) : Type 0 where
@@ -100,11 +103,14 @@ pub record IsOutline (net : Net) : Type 0 where
   pub phase_links : All (λ phases. All (ArePhaseLinks (length net.link_names)) phases) net.phase_links
   pub also_count : length net.also_links ≡ length net.node_names
   pub also_counts : (n : ℕ) → n < length net.node_names → length (also_at net n) ≡ length (plan_at net n)
-  pub also_links : (n k : ℕ) → n < length net.node_names → k < length (plan_at net n) → AreAlsoLinks net n (phase_links_at net n k) (also_links_at net n k)
+  pub also_links : All (λ phases. All (ArePhaseLinks (length net.link_names)) phases) net.also_links
   pub road_count : length net.links ≡ length net.link_names
   pub links : All (IsLink (length net.node_names)) net.links
   pub phases : (l : ℕ) → l < length net.links → (link_at net l).phase ≡ phase_of net.phase_links l (link_at net l).to
   pub turn_count : length net.turns ≡ length net.link_names
   pub turns : All (AreTurns (length net.link_names)) net.turns
+  pub yield_count : length net.yields ≡ length net.link_names
+  pub yields : All (ArePhaseLinks (length net.link_names)) net.yields
+  pub yield_sats : (l : ℕ) → l < length net.link_names → IsYieldSat (yields_at net l) (link_at net l).yield_sat
   pub conflict_count : length net.conflicts ≤ 1024
   pub conflicts : All (λ c. (c.0 < length net.link_names) × (c.1 < length net.link_names)) net.conflicts

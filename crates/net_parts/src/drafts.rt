@@ -1,4 +1,5 @@
 //! A road network by names, as it stands in its file.
+use crate::roads::Walk;
 use foundation::items::Items;
 use foundation::text::Text;
 use foundation::threads::CrossesThreads;
@@ -68,8 +69,11 @@ pub struct DraftNode {
 pub struct DraftPhase {
     /// Its six times, in seconds, and its mark; the bounds stand at the fields of `Phase`.
     pub phase: Phase,
-    /// The names of the links that are green in it, at most 16. Each ends at the node.
+    /// The names of the links that it serves, at most 16. Each ends at the node.
     pub links: Items<Text>,
+    /// The names of the further links that are green in it, at most 16; none where the file has no array of them. Each ends at
+    /// the node.
+    pub also: Items<Text>,
 }
 
 /// A one-way road. It comes from a node or enters the network, and ends at a node or leaves the network
@@ -88,9 +92,22 @@ pub struct DraftLink {
     pub sat: u32,
     /// How much a vehicle on it counts in the delay of a plan, 1 to 20; 1 where the file does not say it.
     pub weight: u32,
+    /// The links to which it gives way; none where the file does not say it.
+    pub yields: Option<DraftYield>,
+    /// How pedestrians go over it; none where the file does not say it. The bounds stand at the fields of `Walk`.
+    pub walk: Option<Walk>,
     /// Where its vehicles turn at its end: at most 16 turns, none where it leaves the network or the
     /// file has no array of them. Their shares add up to 1000 where it ends at a node.
     pub turns: Items<DraftTurn>,
+}
+
+/// The links to which a link gives way (docs/RULES.md, "Links").
+#[derive(Drop)]
+pub struct DraftYield {
+    /// Their names, 1 to 16 of them. Each ends at the node where the link ends, and has a green in common with it.
+    pub links: Items<Text>,
+    /// The most that leaves the link in a second while one of them is busy, in thousandths of a vehicle, 1 to its `sat`.
+    pub sat: u32,
 }
 
 /// A turn from the end of a link into another one (docs/RULES.md, "Turning").

@@ -38,7 +38,7 @@ impl CrossesThreads for Place {}
 
 /// Why a file or draft is no network (docs/FORMATS.md, "Places and faults").
 ///
-/// `Shape` to `Unknown` name a place. `Ends` to `Clash` name links, from 0 to 319, and nodes, from 0 to 63,
+/// `Shape` to `Unknown` name a place. `Ends` to `Walk` name links, from 0 to 319, and nodes, from 0 to 63,
 /// by their numbers in the order of the file.
 #[derive(Debug, Clone, Copy, PartialEq, Eq)]
 pub enum NetFault {
@@ -64,8 +64,15 @@ pub enum NetFault {
     /// The link ends at a node and is not named exactly once over all phases, in a phase of that node,
     /// or ends at no node and is named.
     Phaseless(u32),
+    /// A phase names the link as a further one and is none of the node where the link ends, or names it twice.
+    Also(u32),
     /// The links of a conflict are the same, do not end at one node or have a green in common.
     Clash { a: u32, b: u32 },
+    /// The link gives way to itself, twice to one link, to one that ends elsewhere or to one with which it has no green in
+    /// common.
+    Yields(u32),
+    /// The link has a walk and ends at no node, or a green of it has a `least` below the seconds of the walk and of `cross`.
+    Walk(u32),
 }
 
 impl CrossesThreads for NetFault {}

@@ -9,9 +9,11 @@ mod parts;
 mod phases;
 mod roads;
 
-pub use drafts::{Draft, DraftConflict, DraftLink, DraftNode, DraftPhase, DraftTurn, Run};
+pub use drafts::{
+    Draft, DraftConflict, DraftLink, DraftNode, DraftPhase, DraftTurn, DraftYield, Run,
+};
 pub use faults::{NetFault, Place, Section};
 pub use names::Names;
 pub use parts::Parts;
 pub use phases::phase_with;
-pub use roads::{Link, Turn};
+pub use roads::{Link, Turn, Walk};

@@ -18,5 +18,6 @@ pub struct Parts {
     pub link_names: Names,
     pub links: Vec<Link>,
     pub turns: Vec<Items<Turn>>,
+    pub yields: Vec<Items<u32>>,
     pub conflicts: Vec<(u32, u32)>,
 }

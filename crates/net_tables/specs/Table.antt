@@ -160,7 +160,7 @@ unfoldable pub phase_of : Bool → Data → Option DraftPhase
 phase_of complete d = do
   form ← phase_form complete d
   links ← each as_str form.links
-  Some (record { phase = form.phase; links = links })
+  Some (record { phase = form.phase; links = links; also = [] })
 
 -- a node as it stands in the file, its phases not yet read
 pub record NodeForm : Type 0 where
@@ -225,7 +225,7 @@ unfoldable pub link_of : Bool → Data → Option DraftLink
 link_of complete d = do
   link ← link_form complete d
   turns ← each turn_of link.turns
-  Some (record { name = link.name; from = link.from; to = link.to; travel = link.travel; sat = link.sat; weight = link.weight; turns = turns })
+  Some (record { name = link.name; from = link.from; to = link.to; travel = link.travel; sat = link.sat; weight = link.weight; yields = None; walk = None; turns = turns })
 
 -- a conflict
 unfoldable pub conflict_of : Data → Option DraftConflict

@@ -164,6 +164,7 @@ impl Element for DraftPhase {
         Ok(DraftPhase {
             phase,
             links: Items::from_vec(links),
+            also: Items::from_vec(Vec::new(alloc)),
         })
     }
 }
@@ -186,6 +187,8 @@ impl Element for DraftLink {
             travel: link.travel,
             sat: link.sat,
             weight: link.weight,
+            yields: None,
+            walk: None,
             turns: Items::from_vec(turns),
         })
     }

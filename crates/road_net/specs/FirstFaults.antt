@@ -1,14 +1,14 @@
 -- Which fault of a network is named. The tests go over the whole network one after another, each in the order of the file,
 -- and the first link, node or conflict that fails one is named: docs/FORMATS.md, "Places and faults".
-use Rattle.std.specs.Prelude.{◌≡◌, ℕ, Some, length, All}
+use Rattle.std.specs.Prelude.{◌≡◌, ℕ, Some, length, EachIndex, All}
 use Rattle.foundation.specs.Firsts.{IsFirstWithout}
 use Rattle.net_parts.specs.declared.drafts.Draft.{Draft}
 use Rattle.net_parts.specs.declared.faults.NetFault.{NetFault}
-use Rattle.net_parts.specs.declared.faults.NetFault.TheVariants.{NoMemory, Bound, Twice, Unknown, Ends, Crowd, Shares, Phaseless, Clash}
+use Rattle.net_parts.specs.declared.faults.NetFault.TheVariants.{NoMemory, Bound, Twice, Unknown, Ends, Crowd, Shares, Phaseless, Also, Clash, Yields, Walk}
 use Rattle.net_parts.specs.Bounds.{IsBounded}
 use Rattle.net_parts.specs.FirstFaults.{IsBoundFault, IsTwiceFault, IsUnknownFault}
 use Rattle.net_parts.specs.Numbers.{Net, AreDistinct, numbered, node_names, link_names}
-use Rattle.road_net.specs.Joins.{HasEnds, HasEndsAt, HasFewEntries, HaveFewEntries, HasSharesAt, AreShared, IsPhasedAt, ArePhased, conflict_at, IsConflictAt}
+use Rattle.road_net.specs.Joins.{HasEnds, HasEndsAt, HasFewEntries, HaveFewEntries, HasSharesAt, AreShared, IsPhasedAt, ArePhased, IsAlso, IsConflict, conflict_at, IsConflictAt, IsYield, IsWalk}
 
 -- the pair of links is the first conflict of the file that can be none
 pub record IsFirstClash (net : Net) (pair : ℕ × ℕ) : Type 0 where
@@ -16,9 +16,17 @@ pub record IsFirstClash (net : Net) (pair : ℕ × ℕ) : Type 0 where
   pub there : conflict_at net.conflicts place ≡ pair
   pub first : IsFirstWithout (IsConflictAt net) (length net.conflicts) place
 
+-- the ends of links, what ends at nodes, turns and homes are as they must be
+pub record IsHomed (net : Net) : Type 0 where
+  pub ends : All HasEnds net.links
+  pub entries : HaveFewEntries net.links (length net.node_names)
+  pub shares : AreShared net.links net.turns
+  pub phases : ArePhased net.links net.phase_links
+
 -- Why the parts of a network are not joined as they have to be: the first link without its ends; where all have them, the
 -- first node with more links than it may have; else the first link whose turns are not as they must; else the first that phases do not name as
--- they must; else the first conflict that can be none.
+-- they must; else the first that phases do not name also as they may; else the first conflict that can be none; else the first link that gives way
+-- as it may not; else the first whose walk is longer than a green of it.
 abbrev pub IsJoinFault : Net → NetFault → Type 0
 IsJoinFault net NoMemory = Unit {0}
 IsJoinFault net (Ends l) = IsFirstWithout (HasEndsAt net.links) (length net.links) l
@@ -29,9 +37,13 @@ IsJoinFault net (Shares l) =
 IsJoinFault net (Phaseless l) =
     All HasEnds net.links × HaveFewEntries net.links (length net.node_names) × AreShared net.links net.turns
     × IsFirstWithout (IsPhasedAt net.links net.phase_links) (length net.links) l
-IsJoinFault net (Clash a b) =
-    All HasEnds net.links × HaveFewEntries net.links (length net.node_names) × AreShared net.links net.turns × ArePhased net.links net.phase_links
-    × IsFirstClash net (a, b)
+IsJoinFault net (Also l) = IsHomed net × IsFirstWithout (IsAlso net) (length net.links) l
+IsJoinFault net (Clash a b) = IsHomed net × EachIndex net.links (IsAlso net) × IsFirstClash net (a, b)
+IsJoinFault net (Yields l) =
+    IsHomed net × EachIndex net.links (IsAlso net) × All (IsConflict net) net.conflicts × IsFirstWithout (IsYield net) (length net.links) l
+IsJoinFault net (Walk l) =
+    IsHomed net × EachIndex net.links (IsAlso net) × All (IsConflict net) net.conflicts × EachIndex net.links (IsYield net)
+    × IsFirstWithout (IsWalk net) (length net.links) l
 IsJoinFault net _ = ⊥
 
 -- the network is the draft with numbers for names, where the draft is within its bounds and no two names are the same

@@ -1,5 +1,5 @@
 -- How the parts of a network are joined.
-use Rattle.std.specs.Prelude.{◌≡◌, ◌≢◌, ℕ, suc, ◌+◌, ◌-◌, ◌*◌, ◌/◌, ◌≤◌, ◌<◌, ◌==◌, Bool, false, if◌then◌else◌, List, [], ◌∷◌, Option, Some, None, IsSome, IsTrue, MatchOption, EachIndex, map, position, length, take, sum_by, count_by, slice_index_or, All, AllPairs, Contains}
+use Rattle.std.specs.Prelude.{◌≡◌, ◌≢◌, ℕ, suc, ◌+◌, ◌-◌, ◌*◌, ◌/◌, ◌≤◌, ◌<◌, ◌==◌, Bool, false, if◌then◌else◌, List, [], ◌∷◌, Option, Some, None, IsSome, IsTrue, IfSome, MatchOption, EachIndex, map, position, length, take, sum_by, count_by, slice_index_or, All, AllPairs, Contains}
 use Rattle.std.specs.List.{concat}
 use Rattle.std.specs.List.Sorted.{IsStrictlyIncreasing}
 use Rattle.std.specs.Option.{option_map_or}
@@ -8,7 +8,8 @@ use Rattle.net_parts.specs.declared.roads.Turn.{Turn}
 use Rattle.road_net.specs.declared.joins.Side.{Side}
 use Rattle.road_net.specs.declared.joins.Side.TheVariants.{From, To}
 use Rattle.net_parts.specs.Numbers.{Net, no_link, has_link}
-use Rattle.net_parts.specs.Outline.{is_green_in}
+use Rattle.net_parts.specs.Outline.{phase_links_at, also_links_at, plan_at, yields_at, is_green_in}
+use Rattle.phase_plan.specs.Phases.{phase_at}
 
 -- the link with this number
 abbrev pub link_at : List Link → ℕ → Link
@@ -87,6 +88,34 @@ pub record IsConflict (net : Net) (c : ℕ × ℕ) : Type 0 where
   pub ends : IsSome (link_at net.links c.0).to
   pub node : (link_at net.links c.0).to ≡ (link_at net.links c.1).to
   pub apart : AreNeverBoth net c.0 c.1
+
+-- a phase of a node that names a link also is one of the node where it ends, and names it once, as served or as green also
+pub record IsFurther (net : Net) (l n k : ℕ) : Type 0 where
+  pub ends : (link_at net.links l).to ≡ Some n
+  pub once : count_by (λ m. m == l) (phase_links_at net n k) + count_by (λ m. m == l) (also_links_at net n k) ≡ 1
+
+-- the phases that name the link with this number also are such phases
+abbrev pub IsAlso : Net → ℕ → Type 0
+IsAlso net l = (n k : ℕ) → IsTrue (has_link l (also_links_at net n k)) → IsFurther net l n k
+
+-- a link may give way to another one that ends at its node and has a green in common with it
+pub record GivesWay (net : Net) (l other : ℕ) : Type 0 where
+  pub differ : other ≢ l
+  pub node : (link_at net.links other).to ≡ (link_at net.links l).to
+  pub shared : ¬ AreNeverBoth net l other
+
+-- the link with this number gives way to such links, and twice to none
+pub record IsYield (net : Net) (l : ℕ) : Type 0 where
+  pub each : All (GivesWay net l) (yields_at net l)
+  pub differ : AllPairs (λ a b. a ≢ b) (yields_at net l)
+
+-- each green of a link at a node has at least these seconds
+abbrev pub HasLongGreens : Net → ℕ → ℕ → ℕ → Type 0
+HasLongGreens net l seconds n = (k : ℕ) → IsTrue (is_green_in net l k) → seconds ≤ (phase_at (plan_at net n) k).least
+
+-- a link with a walk ends at a node, and who enters at the end of the walk is over before the least green ends
+abbrev pub IsWalk : Net → ℕ → Type 0
+IsWalk net l = IfSome (link_at net.links l).walk (λ walk. MatchOption (link_at net.links l).to ⊥ (HasLongGreens net l (walk.seconds + walk.cross)))
 
 -- the conflict at this place
 abbrev pub conflict_at : List (ℕ × ℕ) → ℕ → ℕ × ℕ

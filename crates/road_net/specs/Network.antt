@@ -1,12 +1,12 @@
 -- Which network a draft stands for, and what is true of every network.
-use Rattle.std.specs.Prelude.{◌≡◌, ◌≢◌, ℕ, ◌+◌, ◌<◌, ◌≤◌, List, Some, Result, Ok, Err, length, filter, is_some, slice_index, All, AllPairs, Contains}
+use Rattle.std.specs.Prelude.{◌≡◌, ◌≢◌, ℕ, ◌+◌, ◌<◌, ◌≤◌, List, Some, Result, Ok, Err, length, filter, is_some, slice_index, EachIndex, All, AllPairs, Contains}
 use Rattle.net_parts.specs.declared.drafts.Draft.{Draft}
 use Rattle.road_net.specs.declared.joins.Side.TheVariants.{From, To}
 use Rattle.net_parts.specs.Bounds.{IsBounded}
 use Rattle.net_parts.specs.Numbers.{Net, AreDistinct, numbered, node_names, link_names}
 use Rattle.net_parts.specs.Outline.{IsOutline, link_at, plan_at, phase_links_at}
 use Rattle.road_net.specs.Joins as joins
-use Rattle.road_net.specs.Joins.{HasEnds, HaveFewEntries, AreShared, ArePhased, IsConflict}
+use Rattle.road_net.specs.Joins.{HasEnds, HaveFewEntries, AreShared, ArePhased, IsConflict, IsAlso, IsYield, IsWalk}
 use Rattle.net_parts.specs.declared.faults.NetFault.{NetFault}
 use Rattle.net_parts.specs.FirstFaults.{Refuses}
 
@@ -16,7 +16,10 @@ pub record IsJoined (net : Net) : Type 0 where
   pub entries : HaveFewEntries net.links (length net.node_names)
   pub shares : AreShared net.links net.turns
   pub phases : ArePhased net.links net.phase_links
+  pub also : EachIndex net.links (IsAlso net)
   pub conflicts : All (IsConflict net) net.conflicts
+  pub yields : EachIndex net.links (IsYield net)
+  pub walks : EachIndex net.links (IsWalk net)
 
 -- the network is that of the parts, where they are joined as they have to be
 abbrev pub Joins : Net → Result Net NetFault → Type 0

@@ -4,13 +4,14 @@
 ghost use Rattle.std.specs.Prelude.{◌≡◌, ℕ, ◌<◌, IfErr, length};
 ghost use Rattle.net_parts.specs.Outline.{IsOutline};
 ghost use Rattle.net_parts.specs.Parts.{net_of};
-ghost use Rattle.road_net.specs.FirstFaults.{IsJoinFault};
+ghost use Rattle.road_net.specs.FirstFaults.{IsHomed, IsJoinFault};
 ghost use Rattle.road_net.specs.Joins.{AreByNode, HasEndsAt};
 ghost use Rattle.road_net.specs.Network.{IsNetwork, Joins};
 ghost use Rattle.road_net.specs.Stored.{IsStored, Links, Passes};
 
 mod greens;
 mod joins;
+mod overlaps;
 mod senses;
 mod splits;
 
@@ -19,8 +20,8 @@ use foundation::threads::CrossesThreads;
 use joins::Side;
 use net_parts::Parts;
 pub use net_parts::{
-    Draft, DraftConflict, DraftLink, DraftNode, DraftPhase, DraftTurn, Link, NetFault, Place, Run,
-    Section, Turn,
+    Draft, DraftConflict, DraftLink, DraftNode, DraftPhase, DraftTurn, DraftYield, Link, NetFault,
+    Place, Run, Section, Turn, Walk,
 };
 use phase_plan::PhasePlan;
 pub use senses::{LinkSense, Sensed};
@@ -58,7 +59,7 @@ impl Network {
     ghost use Rattle.net_parts.specs.Numbers.{number_of};
     ghost use Rattle.net_parts.specs.Parts.{net_of};
     ghost use Rattle.road_net.specs.Joins.{split_of, AreLinksAt, AreParts};
-    ghost use Rattle.net_parts.specs.Outline.{link_at, turns_at, plan_at, phases_at, phase_links_at, also_links_at, is_green_in, node_name_at, link_name_at};
+    ghost use Rattle.net_parts.specs.Outline.{link_at, turns_at, yields_at, plan_at, phases_at, phase_links_at, also_links_at, is_green_in, node_name_at, link_name_at};
     ghost use Rattle.road_net.specs.Network.{IsNetwork, entry_links, exit_links, AreApart};
     ghost use Rattle.road_net.specs.Totals.{total};
 
@@ -190,6 +191,17 @@ impl Network {
         self.parts.turns[l as usize].as_slice()
     }
 
+    /// The links to which a link gives way, at most 16, in the order of the file; none where it gives way to none.
+    ///
+    /// docs/RULES.md, "Links".
+    pub fn yields(&self, l: u32) -> &[u32]
+        requires { l < length self.now.link_names }
+        ensures value { result.now ≡ yields_at self.now l }
+        ensures network { IsNetwork self.now }
+    {
+        self.parts.yields[l as usize].as_slice()
+    }
+
     /// The part of an amount, in thousandths of a vehicle, that turns at the end of link `l` into the link
     /// `exit`; 0 where no turn leads there. Where the link ends at a node, the parts of its turns are the amount, and
     /// so are those of all links: nothing is lost and nothing comes from nowhere.
@@ -271,7 +283,7 @@ pub fn law_of_network(net: &Network)
 /// The network of these parts, where they are joined as they must be.
 ///
 /// The fault is out of memory, or the first that is found when all parts are tested for the ends of links, then for crowded nodes, for
-/// shares, for phases and for conflicts.
+/// shares, for phases, for further greens, for conflicts, for links that give way and for walks.
 ///
 /// docs/RULES.md, "Road network".
 pub fn join_parts(alloc: Global, parts: Parts) -> Result<Network, NetFault>
@@ -304,8 +316,7 @@ struct NodeLinks {
 }
 
 /// The links of each node of these parts, where the parts are joined as they must be. The fault is out of memory, or
-/// the first that is found when all are tested for the ends of links, then for crowded nodes, for shares, for phases
-/// and for conflicts.
+/// the first that is found when all are tested for the ends of links, then for crowded nodes, and as `check_joins` does.
 fn node_links(alloc: Global, parts: &Parts) -> Result<NodeLinks, NetFault>
     requires { IsOutline (net_of parts.now) }
     ensures { Links parts.now result }
@@ -319,7 +330,8 @@ fn node_links(alloc: Global, parts: &Parts) -> Result<NodeLinks, NetFault>
     Ok(NodeLinks { entry, exit })
 }
 
-/// Tests crowded nodes, shares, phases and conflicts, in this order, where the ends of the links are as they must be.
+/// Tests crowded nodes, shares, phases, further greens, conflicts, links that give way and walks, in this order, where the ends of
+/// the links are as they must be.
 /// `entry` has the links that end at each node.
 fn check_joins(alloc: Global, parts: &Parts, entry: &[Items<u32>]) -> Result<(), NetFault>
     requires outline { IsOutline (net_of parts.now) }
@@ -331,5 +343,17 @@ fn check_joins(alloc: Global, parts: &Parts, entry: &[Items<u32>]) -> Result<(),
     joins::check_entries(entry)?;
     joins::check_shares(links, parts.turns.as_slice())?;
     joins::check_phases(alloc, links, parts.phase_links.as_slice())?;
-    joins::check_conflicts(parts)
+    check_overlaps(parts)
+}
+
+/// Tests further greens, conflicts, links that give way and walks, in this order, where homes are as they must be.
+fn check_overlaps(parts: &Parts) -> Result<(), NetFault>
+    requires outline { IsOutline (net_of parts.now) }
+    requires homed { IsHomed (net_of parts.now) }
+    ensures { Passes (net_of parts.now) result }
+{
+    overlaps::check_also(parts)?;
+    joins::check_conflicts(parts)?;
+    overlaps::check_yields(parts)?;
+    overlaps::check_walks(parts)
 }

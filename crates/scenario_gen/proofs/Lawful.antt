@@ -112,7 +112,10 @@ memory-alone d (net_fault.Ends l) has why = absurd (why has.net has.network)
 memory-alone d (net_fault.Crowd n) has why = absurd (why has.net has.network)
 memory-alone d (net_fault.Shares l) has why = absurd (why has.net has.network)
 memory-alone d (net_fault.Phaseless l) has why = absurd (why has.net has.network)
+memory-alone d (net_fault.Also l) has why = absurd (why has.net has.network)
 memory-alone d (net_fault.Clash a b) has why = absurd (why has.net has.network)
+memory-alone d (net_fault.Yields l) has why = absurd (why has.net has.network)
+memory-alone d (net_fault.Walk l) has why = absurd (why has.net has.network)
 
 -- a row at fault among lawful ones
 module _ (net : Net) (all : List ArrivalRow) (are : AreRows net all) where

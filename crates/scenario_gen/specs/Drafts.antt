@@ -38,16 +38,16 @@ abbrev pub turns_from : Option ℕ → Direction → List DraftTurn
 turns_from None from = []
 turns_from (Some node) from = turn node (opposite from) 700 ∷ turn node (clockwise from) 150 ∷ turn node (opposite (clockwise from)) 150 ∷ []
 
--- a link is 15 seconds long, and 500 thousandths of a vehicle leave it in a second at the most; each counts once
+-- a link is 15 seconds long, and 500 thousandths of a vehicle leave it in a second at the most; each counts once; it gives way to none
 abbrev pub link : ℕ → Road → DraftLink
-link side r = record { name = road_name r; from = option_map node_name (begin_of r); to = option_map node_name (end_of side r); travel = 15; sat = 500; weight = 1; turns = turns_from (end_of side r) (side_of r) }
+link side r = record { name = road_name r; from = option_map node_name (begin_of r); to = option_map node_name (end_of side r); travel = 15; sat = 500; weight = 1; yields = None; walk = None; turns = turns_from (end_of side r) (side_of r) }
 
 -- the phases of each node are alike, but for the links that they serve
 abbrev pub usual : Phase
 usual = record { least = 5; greatest = 40; yellow = 3; clear = 2; loss = 2; wait = 300; skip = false }
 
 abbrev pub phase : List Road → DraftPhase
-phase served = record { phase = usual; links = map road_name served }
+phase served = record { phase = usual; links = map road_name served; also = [] }
 
 abbrev pub node : ℕ → ℕ → DraftNode
 node side k = record { name = node_name k; phases = phase (phase_roads side k 0) ∷ phase (phase_roads side k 1) ∷ [] }

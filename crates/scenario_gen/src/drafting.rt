@@ -111,6 +111,7 @@ fn phase(
     Ok(DraftPhase {
         phase: USUAL,
         links: road_names(alloc, served.as_slice())?,
+        also: Items::from_vec(Vec::new(alloc)),
     })
 }
 
@@ -156,6 +157,8 @@ fn link(alloc: Global, side: u32, road: Road) -> Result<DraftLink, AllocError>
         travel: 15,
         sat: 500,
         weight: 1,
+        yields: None,
+        walk: None,
         turns,
     })
 }

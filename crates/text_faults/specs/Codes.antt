@@ -91,6 +91,9 @@ net_code (net.Ends link) = codes "ends " ++ decimal (link + 1)
 net_code (net.Crowd node) = codes "crowd " ++ decimal (node + 1)
 net_code (net.Shares link) = codes "shares " ++ decimal (link + 1)
 net_code (net.Phaseless link) = codes "phaseless " ++ decimal (link + 1)
+net_code (net.Also link) = codes "also " ++ decimal (link + 1)
+net_code (net.Yields link) = codes "yields " ++ decimal (link + 1)
+net_code (net.Walk link) = codes "walk " ++ decimal (link + 1)
 net_code (net.Clash a b) = codes "clash " ++ decimal (a + 1) ++ 32 ∷ decimal (b + 1)
 
 -- the code of a fault of arrivals: the header, or the first row at fault, from 1; `NoMemory` has none

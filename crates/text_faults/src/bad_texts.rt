@@ -145,6 +145,9 @@ fn push_net_code(line: &mut Vec<u8>, fault: NetFault) -> Result<(), AllocError>
         NetFault::Crowd(node) => push_one(line, b"crowd ", u64::from(node) + 1),
         NetFault::Shares(link) => push_one(line, b"shares ", u64::from(link) + 1),
         NetFault::Phaseless(link) => push_one(line, b"phaseless ", u64::from(link) + 1),
+        NetFault::Also(link) => push_one(line, b"also ", u64::from(link) + 1),
+        NetFault::Yields(link) => push_one(line, b"yields ", u64::from(link) + 1),
+        NetFault::Walk(link) => push_one(line, b"walk ", u64::from(link) + 1),
         NetFault::Clash { a, b } => push_two(line, b"clash ", u64::from(a) + 1, u64::from(b) + 1),
     }
 }

@@ -1,0 +1,153 @@
+//! Further greens, links that give way, and walks.
+ghost use Rattle.std.specs.Prelude.{◌≡◌, ◌≢◌, ◌≤◌, ◌<◌, ◌+◌, ◌==◌, ◌↔◌, ℕ, IsTrue, IfSome, MatchOption, Some, [], All, AllPairs, length, count_by, slice_index_or};
+ghost use Rattle.net_parts.specs.Numbers.{has_link};
+ghost use Rattle.net_parts.specs.Outline.{IsOutline, yields_at, also_links_at, plan_at};
+ghost use Rattle.net_parts.specs.Parts.{net_of};
+ghost use Rattle.road_net.specs.Stored.{TestsEach};
+ghost use Rattle.road_net.specs.Joins.{link_at, IsFurther, IsAlso, GivesWay, IsYield, HasLongGreens, IsWalk};
+
+use crate::greens::{are_never_both, is_green};
+use foundation::items::Items;
+use net_parts::{NetFault, Parts};
+
+/// Tests that phases name each link also as they may. The first that they do not name so is named.
+pub(crate) fn check_also(parts: &Parts) -> Result<(), NetFault>
+    requires { IsOutline (net_of parts.now) }
+    ensures { TestsEach NetFault.Also (IsAlso (net_of parts.now)) (length parts.now.links.items) result }
+{
+    for l in 0..parts.link_names.len() {
+        if !is_also(parts, l) {
+            return Err(NetFault::Also(l));
+        }
+    }
+    Ok(())
+}
+
+/// Whether phases name the link also as they may.
+fn is_also(parts: &Parts, l: u32) -> bool
+    requires outline { IsOutline (net_of parts.now) }
+    requires link { l < length parts.now.link_names }
+    ensures { IsTrue result ↔ IsAlso (net_of parts.now) l }
+{
+    for n in 0..parts.node_names.len() {
+        if !is_also_at(parts, l, n) {
+            return false;
+        }
+    }
+    true
+}
+
+/// Whether the phases of a node do.
+fn is_also_at(parts: &Parts, l: u32, n: u32) -> bool
+    requires outline { IsOutline (net_of parts.now) }
+    requires link { l < length parts.now.link_names }
+    requires node { n < length parts.now.node_names }
+    ensures { IsTrue result ↔ ((k : ℕ) → IsTrue (has_link l (also_links_at (net_of parts.now) n k)) → IsFurther (net_of parts.now) l n k) }
+{
+    let here = parts.links[l as usize].to == Some(n);
+    let serves = parts.phase_links[n as usize].as_slice();
+    for (k, also) in parts.also_links[n as usize].as_slice().iter().enumerate() {
+        if !is_further(serves[k].as_slice(), also.as_slice(), l, here) {
+            return false;
+        }
+    }
+    true
+}
+
+/// Whether a phase that serves these links, and names these also, may do so, where `here` says whether the link ends at its node.
+fn is_further(serves: &[u32], also: &[u32], l: u32, here: bool) -> bool
+    ensures { IsTrue result ↔ (IsTrue (has_link l also.now)
+        → IsTrue here × (count_by (λ m. m == l) serves.now + count_by (λ m. m == l) also.now ≡ 1)) }
+{
+    !also.contains(&l) || (here && times(serves, l) + times(also, l) == 1)
+}
+
+/// How often the list has the link.
+fn times(links: &[u32], l: u32) -> usize
+    ensures { result ≡ count_by (λ m. m == l) links.now }
+{
+    links.iter().filter(|other| **other == l).count()
+}
+
+/// Tests that each link gives way as it may. The first that does not is named.
+pub(crate) fn check_yields(parts: &Parts) -> Result<(), NetFault>
+    requires { IsOutline (net_of parts.now) }
+    ensures { TestsEach NetFault.Yields (IsYield (net_of parts.now)) (length parts.now.links.items) result }
+{
+    for l in 0..parts.link_names.len() {
+        if !is_yield(parts, l) {
+            return Err(NetFault::Yields(l));
+        }
+    }
+    Ok(())
+}
+
+/// Whether the link gives way as it may.
+fn is_yield(parts: &Parts, l: u32) -> bool
+    requires outline { IsOutline (net_of parts.now) }
+    requires link { l < length parts.now.link_names }
+    ensures { IsTrue result ↔ IsYield (net_of parts.now) l }
+{
+    let yields = parts.yields[l as usize].as_slice();
+    for (index, other) in yields.iter().enumerate() {
+        if !can_yield(parts, l, *other) || yields[index + 1..].contains(other) {
+            return false;
+        }
+    }
+    true
+}
+
+/// Whether the link may give way to another one.
+fn can_yield(parts: &Parts, l: u32, other: u32) -> bool
+    requires outline { IsOutline (net_of parts.now) }
+    requires link { l < length parts.now.link_names }
+    requires other { other < length parts.now.link_names }
+    ensures { IsTrue result ↔ GivesWay (net_of parts.now) l other }
+{
+    let node = parts.links[l as usize].to;
+    other != l && parts.links[other as usize].to == node && !are_never_both(parts, l, other)
+}
+
+/// Tests that each link with a walk ends at a node and has greens that are long enough. The first that does not is named.
+pub(crate) fn check_walks(parts: &Parts) -> Result<(), NetFault>
+    requires { IsOutline (net_of parts.now) }
+    ensures { TestsEach NetFault.Walk (IsWalk (net_of parts.now)) (length parts.now.links.items) result }
+{
+    for l in 0..parts.link_names.len() {
+        if !is_walk(parts, l) {
+            return Err(NetFault::Walk(l));
+        }
+    }
+    Ok(())
+}
+
+/// Whether the link, where it has a walk, ends at a node and has greens that are long enough.
+fn is_walk(parts: &Parts, l: u32) -> bool
+    requires outline { IsOutline (net_of parts.now) }
+    requires link { l < length parts.now.link_names }
+    ensures { IsTrue result ↔ IsWalk (net_of parts.now) l }
+{
+    let link = parts.links[l as usize];
+    match link.walk {
+        Some(walk) => match link.to {
+            Some(node) => has_long_greens(parts, l, walk.seconds + walk.cross, node),
+            None => false,
+        },
+        None => true,
+    }
+}
+
+/// Whether each green of the link at the node where it ends has at least these seconds.
+fn has_long_greens(parts: &Parts, l: u32, seconds: u32, node: u32) -> bool
+    requires outline { IsOutline (net_of parts.now) }
+    requires link { l < length parts.now.link_names }
+    requires node { (link_at parts.now.links.items l).to ≡ Some node }
+    ensures { IsTrue result ↔ HasLongGreens (net_of parts.now) l seconds node }
+{
+    for (k, phase) in parts.plans[node as usize].phases().iter().enumerate() {
+        if is_green(parts, l, k as u8) && phase.least < seconds {
+            return false;
+        }
+    }
+    true
+}
