@@ -14,8 +14,8 @@ use Rattle.net_parts.specs.declared.drafts.DraftTurn.{DraftTurn}
 use Rattle.net_parts.specs.declared.drafts.DraftConflict.{DraftConflict}
 use Rattle.net_parts.specs.declared.roads.Link.{Link}
 use Rattle.net_parts.specs.declared.roads.Turn.{Turn}
-use Rattle.net_parts.specs.Numbers.{number_of, number_if, phases_of, link_of, turn_of, turns_of, conflict_of}
-use Rattle.net_parts.specs.FirstFaults.{IsKnownPhase, IsKnownNode, HasKnownEnds, IsKnownTurn, IsKnownLink, IsKnownConflict}
+use Rattle.net_parts.specs.Numbers.{number_of, number_if, yield_names, phases_of, also_of, link_of, turn_of, turns_of, yields_of, conflict_of}
+use Rattle.net_parts.specs.FirstFaults.{IsKnownPhase, IsKnownNode, HasKnownEnds, HasKnownNames, IsKnownTurn, IsKnownLink, IsKnownConflict}
 
 -- a name of a list
 pub number_of-known : (names : List (List ℕ)) (name : List ℕ) (n : ℕ) → number_of names name ≡ Some n → Contains names name
@@ -30,15 +30,37 @@ number_if-known names (Some name) n is =
     number_of-known names name k at
 
 module _ (links : List (List ℕ)) where
-  -- the links of a phase, of a node
-  pub phase-known : (p : DraftPhase) (numbers : List ℕ) → each (number_of links) p.links ≡ Some numbers → IsKnownPhase links p
-  phase-known p numbers is = each-good (number_of links) (Contains links) (number_of-known links) p.links numbers is
+  -- names that have numbers
+  pub names-known : (names : List (List ℕ)) (numbers : List ℕ) → each (number_of links) names ≡ Some numbers → All (Contains links) names
+  names-known names numbers is = each-good (number_of links) (Contains links) (number_of-known links) names numbers is
 
-  node-known : (n : DraftNode) (lists : List (List ℕ)) → phases_of links n ≡ Some lists → IsKnownNode links n
-  node-known n lists is = each-good (λ (p : DraftPhase). each (number_of links) p.links) (IsKnownPhase links) phase-known n.phases lists is
+  -- the links of phases, those that they serve and those that they name also
+  pub phases-known : (ps : List DraftPhase) (serves also : List (List ℕ)) → each (λ (p : DraftPhase). each (number_of links) p.links) ps ≡ Some serves → each (λ (p : DraftPhase). each (number_of links) p.also) ps ≡ Some also → All (IsKnownPhase links) ps
+  phases-known ps serves also is are k d h =
+      record {
+        links = each-good (λ (p : DraftPhase). each (number_of links) p.links) (λ (p : DraftPhase). All (Contains links) p.links) (λ p numbers has. names-known p.links numbers has) ps serves is k d h;
+        also = each-good (λ (p : DraftPhase). each (number_of links) p.also) (λ (p : DraftPhase). All (Contains links) p.also) (λ p numbers has. names-known p.also numbers has) ps also are k d h;
+      }
 
-  pub nodes-known : (nodes : List DraftNode) (lists : List (List (List ℕ))) → each (phases_of links) nodes ≡ Some lists → All (IsKnownNode links) nodes
-  nodes-known nodes lists is = each-good (phases_of links) (IsKnownNode links) node-known nodes lists is
+  abbrev serving : DraftNode → Type 0
+  serving n = All (λ (p : DraftPhase). All (Contains links) p.links) n.phases
+
+  abbrev naming : DraftNode → Type 0
+  naming n = All (λ (p : DraftPhase). All (Contains links) p.also) n.phases
+
+  node-serves : (n : DraftNode) (lists : List (List ℕ)) → phases_of links n ≡ Some lists → serving n
+  node-serves n lists is = each-good (λ (p : DraftPhase). each (number_of links) p.links) (λ (p : DraftPhase). All (Contains links) p.links) (λ p numbers has. names-known p.links numbers has) n.phases lists is
+
+  node-names : (n : DraftNode) (lists : List (List ℕ)) → also_of links n ≡ Some lists → naming n
+  node-names n lists is = each-good (λ (p : DraftPhase). each (number_of links) p.also) (λ (p : DraftPhase). All (Contains links) p.also) (λ p numbers has. names-known p.also numbers has) n.phases lists is
+
+  -- and of nodes
+  pub nodes-known : (nodes : List DraftNode) (serves also : List (List (List ℕ))) → each (phases_of links) nodes ≡ Some serves → each (also_of links) nodes ≡ Some also → All (IsKnownNode links) nodes
+  nodes-known nodes serves also is are k d h i p g =
+      record {
+        links = each-good (phases_of links) serving node-serves nodes serves is k d h i p g;
+        also = each-good (also_of links) naming node-names nodes also are k d h i p g;
+      }
 
   pub turn-known : (t : DraftTurn) (turn : Turn) → turn_of links t ≡ Some turn → IsKnownTurn links t
   unfolding turn_of
@@ -67,11 +89,18 @@ module _ (links : List (List ℕ)) where
         let (to, ends, more) = bind-some (number_if nodes l.to) _ road rest in
         record { from = number_if-known nodes l.from from comes; to = number_if-known nodes l.to to ends }
 
-    -- links with their turns
-    pub links-known : (ls : List DraftLink) (roads : List Link) (lists : List (List Turn)) → each (link_of nodes links phase_links) ls ≡ Some roads → each (turns_of links) ls ≡ Some lists → All (IsKnownLink nodes links) ls
-    links-known ls roads lists all turns k d h =
+    pub own-known : (l : DraftLink) (road : Link) (numbers : List ℕ) → link_of nodes links phase_links l ≡ Some road → yields_of links l ≡ Some numbers → HasKnownNames nodes links l
+    own-known l road numbers is given = record { ends = ends-known l road is; yields = names-known (yield_names l.yields) numbers given }
+
+    -- links with their turns, and those to which they give way
+    pub links-known : (ls : List DraftLink) (roads : List Link) (lists : List (List Turn)) (ways : List (List ℕ)) → each (link_of nodes links phase_links) ls ≡ Some roads → each (turns_of links) ls ≡ Some lists → each (yields_of links) ls ≡ Some ways
+        → All (IsKnownLink nodes links) ls
+    links-known ls roads lists ways all turns given k d h =
         record {
-          ends = each-good (link_of nodes links phase_links) (HasKnownEnds nodes) ends-known ls roads all k d h;
+          own = record {
+            ends = each-good (link_of nodes links phase_links) (HasKnownEnds nodes) ends-known ls roads all k d h;
+            yields = each-good (yields_of links) (λ (l : DraftLink). All (Contains links) (yield_names l.yields)) (λ l numbers has. names-known (yield_names l.yields) numbers has) ls ways given k d h;
+          };
           turns = each-good (turns_of links) (λ (l : DraftLink). All (IsKnownTurn links) l.turns) turns-known ls lists turns k d h;
         }
 

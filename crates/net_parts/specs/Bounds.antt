@@ -59,9 +59,9 @@ abbrev pub IsBoundedTurn : DraftTurn → Type 0
 IsBoundedTurn t = t.share ≤ 1000
 
 -- how many links a link of this greatest discharge gives way to, and its discharge then
-pub record HasYieldBounds (sat : ℕ) (given : DraftYield) : Type 0 where
+pub record HasYieldBounds (most : ℕ) (given : DraftYield) : Type 0 where
   pub count : (1 ≤ length given.links) × (length given.links ≤ 16)
-  pub sat : (1 ≤ given.sat) × (given.sat ≤ sat)
+  pub sat : (1 ≤ given.sat) × (given.sat ≤ most)
 
 -- the seconds of a walk
 pub record HasWalkBounds (walk : Walk) : Type 0 where

@@ -56,9 +56,9 @@ IsTwiceFault d Link item sub = (sub ≡ 0) × AreDistinct (node_names d) × From
 IsTwiceFault d _ item sub = ⊥
 
 -- all names that a phase uses are names of links
-pub record IsKnownPhase (links : List (List ℕ)) (p : DraftPhase) : Type 0 where
-  pub links : All (Contains links) p.links
-  pub also : All (Contains links) p.also
+pub record IsKnownPhase (names : List (List ℕ)) (p : DraftPhase) : Type 0 where
+  pub links : All (Contains names) p.links
+  pub also : All (Contains names) p.also
 
 -- all that the phases of a node use are
 abbrev pub IsKnownNode : List (List ℕ) → DraftNode → Type 0
