@@ -1,4 +1,4 @@
-"""Measures of a report, as traffic engineers take them: by movement, link, approach, node and network, over any interval of a run.
+"""Measures of a report, as traffic engineers take them: by movement, link, phase, approach, node and network, over any interval of a run.
 
     ./signal measures NET ARR REPORT [--by KIND] [--from SECOND] [--to SECOND] [--every SECONDS] [--csv] [--queues QUEUES]
                                       [--approach NAME=LINK,LINK ..]
@@ -28,7 +28,7 @@ from .reports import Green, Records, read_report
 
 # Highway Capacity Manual, signalized junctions: seconds a vehicle, at most
 LEVELS = ((10, "A"), (20, "B"), (35, "C"), (55, "D"), (80, "E"))
-KINDS = ("network", "node", "approach", "link", "movement")
+KINDS = ("network", "node", "phase", "approach", "link", "movement")
 VEHICLE = 1000  # thousandths
 
 
@@ -94,8 +94,19 @@ class Measures:
     cycle_mean: float | None
     cycle_least: int | None
     cycle_most: int | None
+    dark: int
     plans: int | None
     none: int | None
+
+
+@dataclass(frozen=True)
+class Part:
+    """A part of a network: its name, its links and the phases of its signals; of a movement the turn of its link, by its place from 0."""
+
+    name: str
+    links: list[str]
+    phases: list[tuple[str, int]]
+    turn: int | None = None
 
 
 @dataclass
@@ -194,6 +205,11 @@ class Study:
         pairs = (pair for phase in counted for pair in pairwise(self.greens[phase]))
         return [after.begin - before.begin for before, after in pairs if begin < after.begin <= end]
 
+    def dark_in(self, phase: tuple[str, int], begin: int, end: int) -> int:
+        """The most seconds of an interval in which a phase is without green, one after another."""
+        bounds = [(max(begin, green.begin), min(end, green.end)) for green in self.greens[phase] if green.begin < end and begin < green.end]
+        return max(after[0] - before[1] for before, after in pairwise([(begin, begin), *bounds, (end, end)]))
+
     def plans_in(self, nodes: set[str], begin: int, end: int) -> tuple[int, int] | tuple[None, None]:
         """How many plans these nodes made in an interval, and how many times there was none; both None in a report without plans."""
         if not self.report.plans:
@@ -202,13 +218,12 @@ class Study:
         plans = [plan for plan in self.report.plans if plan.node in nodes and begin <= plan.round * step < end]
         return len(plans), sum(not plan.is_found for plan in plans)
 
-    def measures(self, kind: str, name: str, links: Sequence[str], begin: int, end: int, turn: int | None = None) -> Measures:
-        """The measures of these links together; with a turn, of those of the one link who take it."""
-        tally = Tally()
+    def measures(self, kind: str, part: Part, begin: int, end: int) -> Measures:
+        """The measures of a part of the network of this kind."""
+        tally, links, phases = Tally(), part.links, part.phases
         for link in links:
-            tally.add(self.tally(link, begin, end, turn))
+            tally.add(self.tally(link, begin, end, part.turn))
         queue = [sum(each) for each in zip(*(self.flows[link].queue[begin + 1 : end + 1] for link in links))]
-        phases = sorted({self.phase_of(link) for link in links})
         greens = self.greens_in(phases, begin, end)
         failures = sum(any(self.is_failure(link, green) for link in self.links_in_green(green, links)) for green in greens)
         lit, cycles = Lengths.of([green.seconds for green in greens]), Lengths.of(self.cycles_in(phases, begin, end))
@@ -217,12 +232,13 @@ class Study:
         each = quotient(tally.delay / VEHICLE, tally.vehicles / VEHICLE)
         trips = self.entries(begin, end) if kind == "network" else 0
         return Measures(
-            kind, name, begin, end,
+            kind, part.name, begin, end,
             tally.vehicles / VEHICLE, tally.left / VEHICLE, tally.delay / VEHICLE, each, level_of(each), quotient(tally.delay, trips),
             tally.stopped / VEHICLE,
-            *(percentile(queue, part) / VEHICLE for part in (50, 95, 100)),
+            *(percentile(queue, hundredths) / VEHICLE for hundredths in (50, 95, 100)),
             lit.count, failures, quotient(tally.on_green, tally.vehicles), quotient(tally.on_green, tally.expected),
-            lit.mean, lit.least, lit.most, cycles.mean, cycles.least, cycles.most, *plans,
+            lit.mean, lit.least, lit.most, cycles.mean, cycles.least, cycles.most,
+            max(self.dark_in(phase, begin, end) for phase in phases), *plans,
         )  # fmt: skip
 
     def entries(self, begin: int, end: int) -> int:
@@ -230,18 +246,27 @@ class Study:
         flows = (flow for flow in self.flows.values() if flow.link.start is None)
         return sum(flow.entered[end] - flow.entered[begin] for flow in flows)
 
-    def groups(self, kind: str, approaches: dict[str, list[str]]) -> list[tuple[str, list[str], int | None]]:
-        """The parts of the network of a kind: the name of each, its links, and the turn for a movement."""
+    def part(self, name: str, links: list[str], turn: int | None = None) -> Part:
+        """These links, with the phases that they have green in."""
+        return Part(name, links, sorted({self.phase_of(link) for link in links}), turn)
+
+    def parts(self, kind: str, approaches: dict[str, list[str]]) -> list[Part]:
+        """The parts of the network of a kind, in the order of the network."""
         ending = [link for link in self.network.links if link.end]
         if kind == "network":
-            return [("network", [link.name for link in ending], None)]
+            return [self.part("network", [link.name for link in ending])]
         if kind == "node":
-            return [(node.name, [link.name for link in ending if link.end == node.name], None) for node in self.network.nodes]
+            return [self.part(node.name, [link.name for link in ending if link.end == node.name]) for node in self.network.nodes]
+        if kind == "phase":
+            return [
+                Part(f"{node} {number}", [link.name for link in ending if self.phase_of(link.name) == (node, number)], [(node, number)])
+                for node, number in self.greens
+            ]
         if kind == "link":
-            return [(link.name, [link.name], None) for link in ending]
+            return [self.part(link.name, [link.name]) for link in ending]
         if kind == "movement":
-            return [(f"{link.name}>{turn.exit}", [link.name], place) for link in ending for place, turn in enumerate(link.turns)]
-        return [(name, links, None) for name, links in approaches_of(self.network, approaches).items()]
+            return [self.part(f"{link.name}>{turn.exit}", [link.name], place) for link in ending for place, turn in enumerate(link.turns)]
+        return [self.part(name, links) for name, links in approaches_of(self.network, approaches).items()]
 
     def table(
         self, kind: str, begin: int = 0, end: int | None = None, every: int | None = None, approaches: dict[str, list[str]] | None = None
@@ -254,10 +279,10 @@ class Study:
             raise Fault(f"every {every} seconds is no interval")
         begins = range(begin, end, every or end - begin)
         return [
-            self.measures(kind, name, links, first, min(end, first + begins.step), turn)
+            self.measures(kind, part, first, min(end, first + begins.step))
             for first in begins
-            for name, links, turn in self.groups(kind, approaches or {})
-            if links
+            for part in self.parts(kind, approaches or {})
+            if part.phases
         ]
 
 
@@ -318,7 +343,7 @@ def _span(mean: float | None, least: int | None, most: int | None) -> str:
 
 HEADS = (
     "second", "", "vehicles", "s/veh", "LOS", "stopped %", "queue 50", "95", "most", "split failures",
-    "on green %", "platoon", "green s", "cycle s", "none",
+    "on green %", "platoon", "green s", "cycle s", "dark s", "none",
 )  # fmt: skip
 
 
@@ -328,7 +353,7 @@ def _cells(row: Measures) -> list[str]:
         _percent(quotient(row.stopped, row.vehicles)), _number(row.queue_50), _number(row.queue_95), _number(row.queue_most),
         f"{row.failures} of {row.greens}", _percent(row.on_green), _number(row.platoon_ratio, 2),
         _span(row.green_mean, row.green_least, row.green_most), _span(row.cycle_mean, row.cycle_least, row.cycle_most),
-        "-" if row.plans is None else f"{row.none} of {row.plans}",
+        str(row.dark), "-" if row.plans is None else f"{row.none} of {row.plans}",
     ]  # fmt: skip
 
 

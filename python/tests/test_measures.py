@@ -89,6 +89,14 @@ class MeasuresTest(FilesTest):
         self.assertEqual((row.greens, row.green_mean, row.green_least, row.green_most), (3, 40 / 3, 10, 20))
         self.assertEqual((row.cycle_mean, row.cycle_least, row.cycle_most), (40, 40, 40))
 
+    def test_dark_times(self) -> None:
+        # Up to second 20 phase 0 of a is dark from 10 on, phase 1 up to 15; b shows phase 0 all the time and phase 1 never.
+        study = self.study(HELD)
+        dark = {row.name: row.dark for row in study.table("phase")}
+        self.assertEqual(dark, {"a 0": 10, "a 1": 15, "b 0": 0, "b 1": 20})
+        self.assertEqual([self.row(study, kind, name).dark for kind, name in (("node", "a"), ("link", "sa"), ("network", "network"))], [15, 15, 20])
+        self.assertEqual([row.dark for row in study.table("phase", 5, 18)], [8, 10, 0, 13])
+
     def test_intervals_and_approaches(self) -> None:
         study = self.study(HELD)
         rows = study.table("node", 0, 20, 10)
