@@ -21,8 +21,8 @@ pub enum StateFault {
     Time(u32),
     /// The least link whose queue is told twice, or on which what comes is told in seconds that do not rise.
     Sense(u32),
-    /// The least link whose version is told twice or is above the number of the round, or whose rows are no forecast, or
-    /// whose forecast has rows and no version.
+    /// The least link whose version is told twice or is more than one above the number of the round, or whose rows are no
+    /// forecast, or whose forecast has rows and no version.
     Board(u32),
     /// The least node whose greens are no lawful timeline that goes on in the first second of the round.
     Line(u32),

@@ -11,7 +11,7 @@ use road_net::Sensed;
 /// docs/FORMATS.md, "State of a round".
 #[derive(Drop)]
 pub struct LinkBoard {
-    /// The version of the forecast, at most the number of the round; 0 where none was published.
+    /// The version of the forecast, at most one above the number of the round; 0 where none was published.
     pub version: u32,
     /// The forecast; no row where none was published.
     pub forecast: Forecast,
@@ -19,7 +19,7 @@ pub struct LinkBoard {
 
 impl CrossesThreads for LinkBoard {}
 
-/// The state in which a round begins, whoever brought the network there.
+/// The state in which a round begins, or in which some of its nodes have had their turns, whoever brought the network there.
 ///
 /// docs/FORMATS.md, "State of a round".
 #[derive(Drop)]
