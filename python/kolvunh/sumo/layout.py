@@ -3,16 +3,17 @@
 import math
 import os
 import random
-import re
 import tomllib
-import xml.etree.ElementTree as ElementTree
+from bisect import bisect_right
 from collections import defaultdict
-from typing import Any, NamedTuple
+from types import MappingProxyType
+from typing import Any
 
 from ..arrivals import read_arrivals
 from ..faults import Fault
 from ..records import Place, rows_of, text_of
 from ..reports import read_report
+from .streets import Junctions, read_root
 
 SUMO_HOME = os.environ.setdefault("SUMO_HOME", "/usr/share/sumo")
 SPEED = 13.89  # metres a second
@@ -21,10 +22,10 @@ WEST, EAST, SOUTH, NORTH = (-1, 0), (1, 0), (0, -1), (0, 1)
 
 
 class Edge:
-    """Links between the same two places: their lanes, numbered from the right."""
+    """Links between the same two places by the same points: their lanes, numbered from the right."""
 
-    def __init__(self, start, end):
-        self.start, self.end, self.travel, self.lanes = start, end, 0, {}
+    def __init__(self, start, end, points):
+        self.start, self.end, self.points, self.travel, self.lanes = start, end, points, 0, {}
 
     def lane_count(self):
         return sum(len(lanes) for lanes in self.lanes.values())
@@ -34,7 +35,7 @@ class Layout:
     """A network, where its nodes and the open ends of its links are, and its edges."""
 
     def __init__(self, network, places=None):
-        self.network = network
+        self.network = network = on_wheels(network)
         self.links = {link["name"]: link for link in network["link"]}
         self.nodes = {node["name"]: node for node in network["node"]}
         self.phase_of = {
@@ -43,6 +44,11 @@ class Layout:
             for number, phase in enumerate(node["phase"])
             for link in phase["links"]
         }
+        self.greens_of = defaultdict(set)
+        for node in network["node"]:
+            for number, phase in enumerate(node["phase"]):
+                for link in (*phase["links"], *phase.get("also", [])):
+                    self.greens_of[link].add((node["name"], number))
         self.seconds = network["run"]["rounds"] * network["run"]["step"]
         self.places, self.edge_of, self.edges = places or places_in_line(network), {}, {}
         for link in network["link"]:
@@ -55,12 +61,14 @@ class Layout:
         ends = ("node", start) if start else ("link", name), ("node", end) if end else ("link", name)
         for kind, of in set(ends) - set(self.places):
             raise Fault(f"the file of places has no row {kind},{of}")
-        at = tuple(self.places[end] for end in ends)
+        by = [self.places[kind, name] for kind in ("begin", "end") if (kind, name) in self.places]
+        points = [self.places[ends[0]], *by, self.places[ends[1]]]
         for edge_name, edge in self.edges.items():
-            if (self.places[edge.start], self.places[edge.end]) == at:
+            if edge.points == points:
                 break
         else:
-            edge_name, edge = (f"{start}-{end}" if start and end else name), Edge(*ends)
+            edge_name, edge = (f"{start}-{end}" if start and end else name), Edge(*ends, points)
+            edge_name = name if edge_name in self.edges else edge_name
             self.edges[edge_name] = edge
         edge.lanes[name] = []
         edge.travel = max(edge.travel, link["travel"])
@@ -73,14 +81,15 @@ class Layout:
             edge.lanes[link] = list(range(lane, lane + count))
             lane += count
 
-    def heading(self, link):
-        edge = self.edges[self.edge_of[link]]
-        (x, y), (to_x, to_y) = self.places[edge.start], self.places[edge.end]
+    def heading(self, link, ends):
+        """In which direction a link begins, or ends, in degrees from the north to the right."""
+        points = self.edges[self.edge_of[link]].points
+        (x, y), (to_x, to_y) = points[-2:] if ends else points[:2]
         return math.degrees(math.atan2(to_x - x, to_y - y))
 
     def angle(self, link, exit):
         """By how many degrees a vehicle turns from the link into the exit; above 0 is to the right."""
-        return (self.heading(exit) - self.heading(link) + 180) % 360 - 180
+        return (self.heading(exit, False) - self.heading(link, True) + 180) % 360 - 180
 
     def lean(self, link):
         return sum(self.angle(link, turn["exit"]) * turn["share"] for turn in self.links[link].get("turn", []))
@@ -101,6 +110,16 @@ class Layout:
         return {
             f"{name}_{lane}": link for name, edge in self.edges.items() for link, lanes in edge.lanes.items() for lane in lanes
         }
+
+
+def on_wheels(network):
+    """A network without the links on which people walk, and the exits to which they alone lead: SUMO is given vehicles alone."""
+    walks = {link["name"] for link in network["link"] if "walk" in link}
+    used = {turn["exit"] for link in network["link"] if link["name"] not in walks for turn in link.get("turn", [])}
+    led = {turn["exit"] for link in network["link"] if link["name"] in walks for turn in link.get("turn", [])} - used
+    links = [link for link in network["link"] if link["name"] not in walks | led]
+    conflicts = [pair for pair in network.get("conflict", []) if not walks & {pair["a"], pair["b"]}]
+    return network | {"link": links, "conflict": conflicts} if walks else network
 
 
 def read_tables(path: Place) -> dict[str, Any]:
@@ -172,46 +191,11 @@ def open_sides(network, node, order):
     }
 
 
-class Movement(NamedTuple):
-    """A way through a junction: from lane to lane, its place in the signal's state, and its number at the junction."""
-
-    lane: str
-    exit_lane: str
-    index: int
-    junction: str
-    number: int
-
-
-class Junctions:
-    """What SUMO's network says of signals: movements, those that cross or give way, and the lane after one in a junction."""
-
-    def __init__(self, path):
-        root = ElementTree.parse(path).getroot()
-        self.movements, self._requests, self.after = defaultdict(list), {}, {}
-        for row in root.iter("connection"):
-            lanes = f"{row.get('from')}_{row.get('fromLane')}", f"{row.get('to')}_{row.get('toLane')}"
-            if row.get("from").startswith(":"):
-                self.after[lanes[0]] = lanes[1]
-            if "tl" in row.attrib and "via" in row.attrib:
-                junction, first, further = re.fullmatch(r":(.*)_(\d+)_(\d+)", row.get("via")).groups()
-                place = int(row.get("linkIndex")), junction, int(first) + int(further)
-                self.movements[row.get("tl")].append(Movement(*lanes, *place))
-        for junction in root.iter("junction"):
-            rows = junction.findall("request")
-            self._requests[junction.get("id")] = [(row.get("foes")[::-1], row.get("response")[::-1]) for row in rows]
-
-    def cross(self, one, other):
-        return one.junction == other.junction and self._requests[one.junction][one.number][0][other.number] == "1"
-
-    def gives_way(self, one, other):
-        return one.junction == other.junction and self._requests[one.junction][one.number][1][other.number] == "1"
-
-
 class Signals:
     """The states by which SUMO's signals show the phases of a network's nodes."""
 
     def __init__(self, layout, path):
-        self.layout, self.junctions = layout, Junctions(path)
+        self.layout, self.junctions = layout, Junctions(read_root(path, "net"))
         self._link_of = layout.link_of_lane()
         self.red = {name: "r" * len(self.junctions.movements[name]) for name in layout.nodes}
         self.green = {
@@ -221,22 +205,30 @@ class Signals:
     def _state(self, node, phase):
         state = list(self.red[node])
         on = [
-            move for move in self.junctions.movements[node] if self.layout.phase_of[self._link_of[move.lane]] == (node, phase)
+            move for move in self.junctions.movements[node] if (node, phase) in self.layout.greens_of[self._link_of[move.lane]]
         ]
         for move in on:
-            state[move.index] = "g" if any(self.junctions.gives_way(move, other) for other in on) else "G"
+            state[move.index] = "g" if any(self.gives_way(move, other) for other in on) else "G"
         return "".join(state)
 
-    def yellow(self, node, phase):
-        return yellow_of(self.green[node][phase])
+    def gives_way(self, move, other):
+        """Whether a movement gives way to another, by SUMO's network or by the file."""
+        yields = self.layout.links[self._link_of[move.lane]].get("yields", [])
+        return self.junctions.gives_way(move, other) or (self._link_of[other.lane] in yields and self.junctions.cross(move, other))
+
+    def free_count(self, link, node, phase):
+        """How many of a link's movements are green in a phase and need not give way."""
+        moves = [move for move in self.junctions.movements[node] if self._link_of[move.lane] == link]
+        return sum(self.green[node][phase][move.index] == "G" for move in moves)
 
     def at(self, node, rows, second):
         """What the signal of a node shows in a second under rows of greens (phase, from, to)."""
         return state_at(self.layout.nodes[node]["phase"], self.green[node], rows, second)
 
     def undeclared_crossings(self):
-        """Pairs of links whose lanes cross and which are no conflict of the network, each with its node."""
+        """Pairs of links whose lanes cross, and of which the network says neither a conflict nor who gives way, each with its node."""
         declared = {frozenset((pair["a"], pair["b"])) for pair in self.layout.network.get("conflict", [])}
+        declared |= {frozenset((name, other)) for name, link in self.layout.links.items() for other in link.get("yields", [])}
         for node in self.layout.nodes:
             found = set()
             for one in self.junctions.movements[node]:
@@ -247,18 +239,25 @@ class Signals:
             yield from ((node, *pair) for pair in sorted(found))
 
 
-def yellow_of(state):
-    return state.replace("G", "y").replace("g", "y")
+def state_at(phases, greens, rows, second, walks=MappingProxyType({})):
+    """The state in a second under rows (phase, from, to); phases are those of the node's plan, greens their states.
 
-
-def state_at(phases, greens, rows, second):
-    """The state in a second: that of the green, yellow after it, or red; phases are those of the node's plan."""
-    for phase, start, end in reversed(rows):
-        if start <= second < end:
-            return greens[phase]
-        if end <= second < end + phases[phase]["yellow"]:
-            return yellow_of(greens[phase])
-    return "r" * len(greens[0])
+    In a green it is that of the phase, but for crossings, which are green in the first seconds alone: `walks` has their places in the
+    state and these seconds. In a change what is green before and after stays green; what else was green shows yellow, then red.
+    """
+    place = bisect_right(rows, second, key=lambda row: row[1]) - 1
+    if place < 0:
+        return "r" * len(greens[0])
+    phase, start, end = rows[place]
+    if second < end:
+        over = {at for at, seconds in walks.items() if second >= start + seconds}
+        return "".join("r" if at in over else letter for at, letter in enumerate(greens[phase]))
+    after = greens[rows[place + 1][0]] if place + 1 < len(rows) else "r" * len(greens[0])
+    ending = "y" if second < end + phases[phase]["yellow"] else "r"
+    return "".join(
+        letter if letter not in "Gg" or (after[at] in "Gg" and at not in walks) else "r" if at in walks else ending
+        for at, letter in enumerate(greens[phase])
+    )
 
 
 def read_greens(path):

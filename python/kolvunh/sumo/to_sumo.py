@@ -3,9 +3,10 @@
     tools/sumo/to_sumo.py NET PLACES DIR [--arrivals ARR [--seed N] [--at-once]] [--report REPORT]
 
 PLACES is a CSV with the header `kind,name,x,y`, in metres: rows `node,NAME,x,y` for each node, and `link,NAME,x,y` for the
-open end of each link that enters or leaves the network. Open ends at one place are lanes of one road. With `-` in its stead
-the nodes stand in a line from west to east, in the order of the file. Lengths come from the `travel` of the links, and not
-from the places.
+open end of each link that enters or leaves the network; `begin,NAME,x,y` and `end,NAME,x,y` may say by which points a link leaves a
+node and comes to one. Links between the same places by the same points are lanes of one road. With `-` in its stead the nodes stand in
+a line from west to east, in the order of the file. Lengths come from the `travel` of the links, and not from the places. Links on which
+people walk are left out, and told.
 
 The vehicles of ARR become DIR/routes.N.rou.xml, their turns drawn from the number N; with --at-once they stop and start at once, as
 the rules of the world have it, and from a stand only after the start-up loss. The greens of REPORT become
@@ -61,6 +62,7 @@ def write_plain(layout, folder):
             numLanes=edge.lane_count(),
             speed=SPEED,
             length=edge.travel * SPEED,
+            **({"shape": " ".join(f"{x:.2f},{y:.2f}" for x, y in edge.points)} if len(edge.points) > 2 else {}),
         )
         for name, edge in layout.edges.items()
     )
@@ -101,12 +103,29 @@ def report_program(node, states):
 
 def ring(signals, node, kind="static"):
     """The ring of a node's phases as spans: fixed, or with bounds within which SUMO's controller of this kind moves."""
-    for number, phase in enumerate(signals.layout.nodes[node]["phase"]):
-        bounds = (phase["least"], phase["greatest"]) if kind != "static" else None
-        yield min(max(phase["least"], RING_GREEN), phase["greatest"]), signals.green[node][number], bounds
-        yield phase["yellow"], signals.yellow(node, number), None
-        if phase["clear"]:
-            yield phase["clear"], signals.red[node], None
+    phases = signals.layout.nodes[node]["phase"]
+    seconds, begin, rows = ring_seconds(signals, node), 0, []
+    for number in (*range(len(phases)), 0):
+        rows.append((number, begin, begin + seconds[number]))
+        begin = rows[-1][2] + phases[number]["yellow"] + phases[number]["clear"]
+    for (number, start, end), after in itertools.pairwise(rows):
+        bounds = (phases[number]["least"], phases[number]["greatest"]) if kind != "static" else None
+        yield seconds[number], signals.green[node][number], bounds
+        change = (signals.at(node, rows, second) for second in range(end, after[1]))
+        yield from ((len(list(group)), state, None) for state, group in itertools.groupby(change))
+
+
+def ring_seconds(signals, node):
+    """The seconds of each green of a ring: a link's home is longer than any other phase in which as much of it need not give way."""
+    phases, layout = signals.layout.nodes[node]["phase"], signals.layout
+    seconds = [min(max(phase["least"], RING_GREEN), phase["greatest"]) for phase in phases]
+    for _ in phases:
+        for link, (of, home) in layout.phase_of.items():
+            if of == node:
+                free = {number: signals.free_count(link, node, number) for at, number in layout.greens_of[link] if at == node}
+                others = [seconds[number] for number in free if number != home and free[number] >= free[home]]
+                seconds[home] = max(seconds[home], min(phases[home]["greatest"], 1 + max(others, default=0)))
+    return seconds
 
 
 def rings(signals, kind):
@@ -168,7 +187,10 @@ def work() -> None:
     parser.add_argument("--at-once", action="store_true", help="vehicles stop and start at once")
     parser.add_argument("--report", type=Path)
     options = parser.parse_args()
-    signals = convert(read_tables(options.network), read_places(options.places), options.folder)
+    network = read_tables(options.network)
+    signals = convert(network, read_places(options.places), options.folder)
+    if walks := [link["name"] for link in network["link"] if "walk" in link]:
+        print(f"people walk on {', '.join(walks)}: they are left out", file=sys.stderr)
     for node, one, other in signals.undeclared_crossings():
         print(f"{node}: {one} and {other} cross, and are in no conflict", file=sys.stderr)
     if options.arrivals:

@@ -1,0 +1,219 @@
+"""Tests of what becomes of SUMO's networks: signals as nodes, who drives there, and networks there and back."""
+
+import csv
+import gzip
+import shutil
+import subprocess
+import tempfile
+import unittest
+from collections.abc import Callable
+from pathlib import Path
+from typing import Any
+
+from kolvunh.faults import Fault
+from kolvunh.sumo.demand import Demand
+from kolvunh.sumo.drafts import Draft, write_draft
+from kolvunh.sumo.from_sumo import lines_on, nodes_of, survey, survey_line
+from kolvunh.sumo.groups import Node
+from kolvunh.sumo.layout import Layout, read_places, read_tables, state_at
+from kolvunh.sumo.streets import Movement, Streets
+from kolvunh.sumo.to_sumo import convert, write_routes
+
+
+class Crossroads:
+    """Who crosses whom, by pairs of numbers; of each pair the first gives way."""
+
+    def __init__(self, *pairs: tuple[int, int]) -> None:
+        self.pairs = set(pairs)
+
+    def cross(self, one: Movement, other: Movement) -> bool:
+        """Whether two movements cross."""
+        return bool({(one.number, other.number), (other.number, one.number)} & self.pairs)
+
+    def gives_way(self, one: Movement, other: Movement) -> bool:
+        """Whether the first gives way."""
+        return (one.number, other.number) in self.pairs
+
+
+def moves(*lanes: str) -> list[Movement]:
+    """A movement for each lane, numbered from 0."""
+    return [Movement(lane, f"out{place}_0", place, "j", place) for place, lane in enumerate(lanes)]
+
+
+class NodeTest(unittest.TestCase):
+    def test_a_left_turn_that_gives_way_and_has_a_green_of_its_own(self) -> None:
+        states = [(30, "GgGr"), (3, "yyyr"), (6, "rGrr"), (3, "ryrr"), (30, "rrrG"), (3, "rrry")]
+        node = Node("a", moves("west_0", "west_1", "east_0", "south_0"), states, Crossroads((1, 2), (3, 0), (3, 1), (3, 2)))
+        self.assertEqual((node.losses, node.reasons(), node.used, node.marked), ([], [], [0, 1, 2], {1}))
+        through, left, opposite, side = node.groups[2], node.groups[3], node.groups[0], node.groups[1]
+        self.assertEqual([group.home for group in (through, left, opposite, side)], [0, 1, 0, 2])
+        self.assertEqual((left.shown, left.giving), ({0, 1}, {0}))
+        self.assertTrue(node.yields(left, opposite) and not node.yields(opposite, left))
+        self.assertEqual([node.clear_after(phase) for phase in (0, 1, 2)], [3, 0, 0])
+
+    def test_a_lane_of_which_only_some_is_green(self) -> None:
+        states = [(30, "Ggr"), (3, "yyr"), (30, "Grr"), (3, "yrr"), (30, "rrG"), (3, "rry")]
+        lanes = [Movement(lane, f"out{place}_0", place, "j", place) for place, lane in enumerate(("west_0", "west_0", "south_0"))]
+        node = Node("a", lanes, states, Crossroads((2, 0)))
+        self.assertEqual([loss.kind for loss in node.losses], ["lane partly green", "phase left out"])
+        self.assertEqual((node.used, [group.greens for group in node.groups]), ([0, 2], [{2}, {0}]))
+
+    def test_five_phases_of_which_one_can_be_left_out(self) -> None:
+        states = [(20, "GGrrrr"), (8, "GrGrrr"), (20, "rrGGrr"), (20, "rrrrGr"), (20, "rrrrrG")]
+        node = Node("a", moves(*(f"e{place}_0" for place in range(6))), states, Crossroads())
+        self.assertEqual(([loss.kind for loss in node.losses], node.used), (["phase left out"], [0, 2, 3, 4]))
+
+    def test_no_nodes(self) -> None:
+        one = Node("a", moves("west_0"), [(30, "G"), (3, "y")], Crossroads())
+        self.assertEqual([loss.kind for loss in one.reasons()], ["one phase"])
+        five = ["".join("G" if at == place else "r" for at in range(5)) for place in range(5)]
+        many = Node("a", moves(*(f"e{place}_0" for place in range(5))), [(10, state) for state in five], Crossroads())
+        self.assertEqual([loss.kind for loss in many.reasons()], ["more than 4 phases"])
+
+    def test_a_crossing_that_is_green_for_some_seconds(self) -> None:
+        walk = Movement(":j_c0_0", "", 2, "j", 2, "walk")
+        states = [(20, "GrG"), (5, "Grr"), (3, "yrr"), (20, "rGr"), (3, "ryr")]
+        node = Node("a", moves("west_0", "south_0"), states, Crossroads((1, 2)), {walk: 9.0})
+        self.assertEqual(([phase.seconds for phase in node.phases], node.losses), ([25, 20], []))
+        crossing = node.groups[-1]
+        self.assertEqual((crossing.cross, crossing.home, node.least_of(0), node.least_of(1)), (8, 0, 13, 5))
+        phases = [{"yellow": 3}, {"yellow": 3}]
+        shown = [state_at(phases, ["GrG", "rGr"], [(0, 0, 25), (1, 30, 50)], second, node.walks) for second in (4, 5, 25, 28, 30)]
+        self.assertEqual(shown, ["GrG", "Grr", "yrr", "rrr", "rGr"])
+
+    def test_what_is_green_before_and_after_a_change_stays_green(self) -> None:
+        phases = [{"yellow": 3}, {"yellow": 3}, {"yellow": 3}]
+        rows = [(0, 0, 10), (1, 15, 20), (2, 25, 30)]
+        shown = [state_at(phases, ["Ggr", "rGr", "rrG"], rows, second) for second in (9, 10, 13, 15, 20, 23, 25, 30, 33)]
+        self.assertEqual(shown, ["Ggr", "ygr", "rgr", "rGr", "ryr", "rrr", "rrG", "rry", "rrr"])
+
+
+@unittest.skipUnless(shutil.which("netgenerate") and shutil.which("netconvert"), "SUMO is not installed")
+class NetworkTest(unittest.TestCase):
+    grid: Path
+    place: tempfile.TemporaryDirectory[str]
+
+    @classmethod
+    def setUpClass(cls) -> None:
+        """A square of four signals with lanes to the left, as SUMO makes it."""
+        cls.place = tempfile.TemporaryDirectory()
+        cls.grid = Path(cls.place.name) / "grid.net.xml"
+        words = "--grid --grid.number 2 --grid.length 250 --grid.attach-length 250 --turn-lanes 1 --turn-lanes.length 80"
+        words += " --default.lanenumber 2 --default-junction-type traffic_light --no-turnarounds"
+        subprocess.run(["netgenerate", *words.split(), "-o", cls.grid], check=True, capture_output=True)
+        cls.streets = Streets(cls.grid)
+
+    @classmethod
+    def tearDownClass(cls) -> None:
+        """Leaves no files."""
+        cls.place.cleanup()
+
+    def setUp(self) -> None:
+        place = tempfile.TemporaryDirectory()
+        self.addCleanup(place.cleanup)
+        self.folder = Path(place.name)
+
+    def file(self, inside: str, name: str = "x.rou.xml", root: str = "routes") -> Path:
+        path = self.folder / name
+        path.write_text(f"<{root}>{inside}</{root}>", encoding="utf-8")
+        return path
+
+    def ways(self) -> list[str]:
+        """The quickest way from each end of the square to each other one."""
+        streets, ends = self.streets, [edge for edge in self.streets.edges if not self.streets.before[edge]]
+        exits = [edge for edge in streets.edges if not streets.onward[edge]]
+        pairs = [(start, exit) for start in ends for exit in exits if streets.edges[start].start != streets.edges[exit].end]
+        return [" ".join(streets.route(*pair) or []) for pair in pairs]
+
+    def demand(self, inside: str) -> Demand:
+        demand = Demand(self.streets, 3000)
+        demand.read_routes(self.file(inside))
+        return demand
+
+    def draft(self, demand: Demand, streets: Streets | None = None) -> Draft:
+        streets = streets or self.streets
+        return Draft(streets.edges, streets.places, nodes_of(streets)[0], demand.vehicles, demand.walkers)
+
+    def drive(self, copies: int = 1) -> Demand:
+        rows = (f'<vehicle id="{n}" depart="{4 * n}"><route edges="{way}"/></vehicle>' for n, way in enumerate(self.ways() * copies))
+        return self.demand("".join(rows))
+
+    def test_a_survey(self) -> None:
+        kinds = survey(self.grid, True)
+        self.assertEqual(survey_line(kinds), "4 signals: 4 wholly (0 of them in version 2), 0 with losses, 0 no nodes")
+
+    def test_routes_trips_and_flows(self) -> None:
+        way = self.ways()[0]
+        start, end = way.split()[0], way.split()[-1]
+        demand = self.demand(
+            f'<route id="r" edges="{way}"/><flow id="f" route="r" begin="10" end="30" number="4"/>'
+            f'<routeDistribution id="d"><route refId="r" probability="1"/></routeDistribution><vehicle id="v" route="d" depart="0:01:00"/>'
+            f'<trip id="t" from="{start}" to="{end}" depart="5"/><flow id="g" from="{start}" to="{end}" begin="0" end="60" period="30"/>'
+            f'<flow id="h" from="{start}" to="{end}" begin="0" end="60" vehsPerHour="60"/><vehicle id="late" route="r" depart="9000"/>'
+        )
+        self.assertEqual(sorted(vehicle.second for vehicle in demand.vehicles), [0, 0, 5, 10, 15, 20, 25, 30, 60])
+        self.assertEqual({vehicle.edges for vehicle in demand.vehicles}, {tuple(way.split())})
+        self.assertEqual(list(demand.told.values()), [1])
+
+    def test_turns_and_counts(self) -> None:
+        first = self.ways()[0].split()[1]
+        after = self.streets.onward[first]
+        demand = Demand(self.streets, 3000)
+        rows = "".join(f'<edgeRelation from="{first}" to="{exit}" count="{9 - n}"/>' for n, exit in enumerate(after))
+        demand.read_turns(self.file(f'<interval begin="0" end="100">{rows}</interval>', "t.xml", "edgeRelations"))
+        demand.read_counts(self.file(f'<interval begin="0" end="100"><edge id="{first}" entered="20"/></interval>', "c.xml", "data"))
+        self.assertEqual([vehicle.second for vehicle in demand.vehicles], [5 * n for n in range(20)])
+        self.assertEqual({vehicle.edges[0] for vehicle in demand.vehicles}, {first})
+        demand.read_routes(self.file(f'<flow id="f" from="{first}" begin="0" end="100" number="5"/>'))
+        self.assertEqual(len(demand.vehicles), 25)
+
+    def test_a_network_with_greens_that_overlap(self) -> None:
+        draft = self.draft(self.drive())
+        write_draft(draft, self.folder)
+        network = read_tables(self.folder / "net.toml")
+        self.assertEqual((network["version"], len(network["node"])), (3, 4))
+        lefts = [link for link in network["link"] if "yields" in link]
+        self.assertTrue(lefts and all(link["yield_sat"] <= link["sat"] for link in lefts))
+        also = {name for node in network["node"] for phase in node["phase"] for name in phase.get("also", [])}
+        self.assertEqual(also, {link["name"] for link in lefts})
+        self.assertEqual((self.folder / "arrivals.csv").read_text().count(",1000\n"), 56)
+
+    def test_there_and_back(self) -> None:
+        """The network that SUMO has of an imported one has the same links, homes, greens and conflicts."""
+        write_draft(self.draft(self.drive(5)), self.folder)
+        network, places = read_tables(self.folder / "net.toml"), read_places(self.folder / "places.csv")
+        signals = convert(network, places, self.folder / "there")
+        self.assertEqual(list(signals.undeclared_crossings()), [])
+        write_routes(signals.layout, self.folder / "arrivals.csv", 1, self.folder / "there.rou.xml")
+        streets = Streets(self.folder / "there/net.net.xml")
+        demand = Demand(streets, 3000)
+        demand.read_routes(self.folder / "there.rou.xml")
+        write_draft(self.draft(demand, streets), self.folder / "back")
+        self.assertEqual(parts(network, lambda name: name), self.parts_back(Layout(network, places)))
+
+    def parts_back(self, layout: Layout) -> dict[str, Any]:
+        """The parts of the network that came back, by the names of the first one."""
+        lanes, names = layout.link_of_lane(), {}
+        with open(self.folder / "back/names.csv", newline="", encoding="utf-8") as file:
+            for row in csv.DictReader(file):
+                links = {lanes[lane] for lane in row["sumo"].split(";") if lane in lanes} or {row["sumo"]}
+                names[row["name"]] = row["sumo"] if row["kind"] == "node" else "+".join(sorted(links))
+        return parts(read_tables(self.folder / "back/net.toml"), lambda name: names[name])
+
+
+def parts(network: dict[str, Any], named: Callable[[str], str]) -> dict[str, Any]:
+    """The ends of a network's links to nodes, their homes, greens, and to whom they give way, and the conflicts, by other names."""
+    found: dict[str, Any] = {"homes": {}, "greens": set()}
+    for node in network["node"]:
+        for number, phase in enumerate(node["phase"]):
+            found["homes"] |= {named(link): (named(node["name"]), number) for link in phase["links"]}
+            found["greens"] |= {(named(link), number) for link in [*phase["links"], *phase.get("also", [])]}
+    to = [link for link in network["link"] if "to" in link]
+    found["ends"] = {named(link["name"]): ("from" in link and named(link["from"]), named(link["to"])) for link in to}
+    found["yields"] = {named(link["name"]): set(map(named, link.get("yields", []))) for link in to}
+    found["conflicts"] = {frozenset((named(pair["a"]), named(pair["b"]))) for pair in network["conflict"]}
+    return found
+
+
+if __name__ == "__main__":
+    unittest.main()
