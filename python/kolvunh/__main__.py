@@ -9,6 +9,7 @@
     sweep NET ARR ..          a network under several demands with several seeds
     orders NET ARR ..         a network in many orders of its nodes, and from which delay to which they come
     to-sumo, from-sumo, sumo-loop, compare-sumo ..    beside SUMO: docs in tools/sumo/README.md
+    from-cityflow ROADNET FLOW DIR    CityFlow's files as a network file and arrivals
 
 Each says more with --help.
 """
@@ -25,6 +26,7 @@ MODULES = {
     "summary": "summary",
     "sweep": "sweep",
     "orders": "orders",
+    "from-cityflow": "cityflow",
     "to-sumo": "sumo.to_sumo",
     "from-sumo": "sumo.from_sumo",
     "sumo-loop": "sumo.loop",

@@ -1,19 +1,22 @@
 """Tests of what becomes of SUMO's networks: signals as nodes, who drives there, and networks there and back."""
 
+import contextlib
 import csv
 import gzip
+import io
 import shutil
 import subprocess
+import sys
 import tempfile
 import unittest
 from collections.abc import Callable
 from pathlib import Path
 from typing import Any
+from unittest import mock
 
-from kolvunh.faults import Fault
 from kolvunh.sumo.demand import Demand
 from kolvunh.sumo.drafts import Draft, write_draft
-from kolvunh.sumo.from_sumo import lines_on, nodes_of, survey, survey_line
+from kolvunh.sumo.from_sumo import main, nodes_of, survey, survey_line
 from kolvunh.sumo.groups import Node
 from kolvunh.sumo.layout import Layout, read_places, read_tables, state_at
 from kolvunh.sumo.streets import Movement, Streets
@@ -147,8 +150,9 @@ class NetworkTest(unittest.TestCase):
         start, end = way.split()[0], way.split()[-1]
         demand = self.demand(
             f'<route id="r" edges="{way}"/><flow id="f" route="r" begin="10" end="30" number="4"/>'
-            f'<routeDistribution id="d"><route refId="r" probability="1"/></routeDistribution><vehicle id="v" route="d" depart="0:01:00"/>'
-            f'<trip id="t" from="{start}" to="{end}" depart="5"/><flow id="g" from="{start}" to="{end}" begin="0" end="60" period="30"/>'
+            f'<routeDistribution id="d"><route refId="r" probability="1"/></routeDistribution>'
+            f'<vehicle id="v" route="d" depart="0:01:00"/><trip id="t" from="{start}" to="{end}" depart="5"/>'
+            f'<flow id="g" from="{start}" to="{end}" begin="0" end="60" period="30"/>'
             f'<flow id="h" from="{start}" to="{end}" begin="0" end="60" vehsPerHour="60"/><vehicle id="late" route="r" depart="9000"/>'
         )
         self.assertEqual(sorted(vehicle.second for vehicle in demand.vehicles), [0, 0, 5, 10, 15, 20, 25, 30, 60])
@@ -190,6 +194,66 @@ class NetworkTest(unittest.TestCase):
         demand.read_routes(self.folder / "there.rou.xml")
         write_draft(self.draft(demand, streets), self.folder / "back")
         self.assertEqual(parts(network, lambda name: name), self.parts_back(Layout(network, places)))
+
+    def command(self, *words: str | Path) -> tuple[object, list[str]]:
+        """The status and the lines on standard error of the command."""
+        argv = mock.patch.object(sys, "argv", ["from-sumo", *map(str, words)])
+        with argv, contextlib.redirect_stderr(io.StringIO()) as said, self.assertRaises(SystemExit) as ended:
+            main()
+        return ended.exception.code, said.getvalue().splitlines()
+
+    def changed(self, name: str, old: str, new: str) -> Path:
+        """The square's file with all of one text in place of another."""
+        text = self.grid.read_text(encoding="utf-8")
+        self.assertIn(old, text)
+        path = self.folder / name
+        path.write_text(text.replace(old, new), encoding="utf-8")
+        return path
+
+    def test_what_is_no_network_or_says_no_vehicles(self) -> None:
+        way, out = self.ways()[0], self.folder / "out"
+        good = self.file(f'<vehicle id="a" depart="0"><route edges="{way}"/></vehicle>', "good.rou.xml")
+        start = way.split()[0]
+        for net, routes, said in (
+            (self.folder / "none.net.xml", good, "No such file"),
+            (self.file("", "a.xml"), good, "its first element is <routes>, and has to be <net>"),
+            (self.changed("b.net.xml", "</net>", ""), good, "it is no XML"),
+            (self.changed("c.net.xml", "tlLogic", "other"), good, "the network has no signals"),
+            (self.grid, self.folder / "none.rou.xml", "No such file"),
+            (self.grid, self.file("", "d.rou.xml"), "there is no vehicle in it"),
+            (self.grid, self.grid, "its first element is <net>, and has to be <routes>"),
+            (self.grid, "-", "no --counts says who drives"),
+            (self.grid, self.file('<route id="r" edges="none"/>', "e.rou.xml"), 'the route "r" names edge "none", which the network'),
+            (self.grid, self.file(f'<route id="r" edges="{start} {start}"/>', "f.rou.xml"), "and nothing leads there"),
+            (self.grid, self.file('<vehicle id="a" route="r" depart="0"/>', "g.rou.xml"), 'vehicle "a" has route "r", which is not in'),
+            (self.grid, self.file('<trip id="a" from="none" to="none" depart="0"/>', "h.rou.xml"), 'trip "a" names edge "none"'),
+            (self.grid, self.file(f'<flow id="a" from="{start}" begin="0" number="few"/>', "i.rou.xml"), "<flow> has no number number"),
+            (self.grid, self.file(f'<trip id="a" from="{start}" to="{start}" depart="0"/>', "j.rou.xml"), "no vehicle passes a signal"),
+        ):
+            status, lines = self.command(net, routes, out)
+            self.assertEqual((status, len(lines)), (2, 1), lines)
+            self.assertIn(said, lines[0])
+        self.assertEqual(self.command(self.grid)[0], 2)
+
+    def test_packed_files(self) -> None:
+        self.drive()
+        plain = self.folder / "x.rou.xml"
+        for path in (self.grid, plain):
+            (self.folder / f"{path.name}.gz").write_bytes(gzip.compress(path.read_bytes()))
+        for name, files in (("a", (self.grid, plain)), ("b", (self.folder / "grid.net.xml.gz", self.folder / "x.rou.xml.gz"))):
+            self.assertEqual(self.command(*files, self.folder / name), (0, []))
+        self.assertEqual((self.folder / "a/net.toml").read_text(), (self.folder / "b/net.toml").read_text())
+
+    def test_what_is_told_in_a_line(self) -> None:
+        self.drive()
+        routes, logic = self.folder / "x.rou.xml", '<tlLogic id="A0" type="static" programID="0" offset="0">'
+        phases = '<phase duration="40" state="GGGggrrrrrGGGggrrrrr"/></tlLogic>'
+        two = self.changed("two.net.xml", logic, logic.replace('programID="0"', 'programID="1"') + phases + logic)
+        status, lines = self.command(two, routes, self.folder / "two")
+        self.assertEqual((status, lines), (0, ["signal A0: it has 2 programs: the last one, 0, is taken, which SUMO shows"]))
+        left = self.changed("left.net.xml", "<net ", '<net lefthand="true" ')
+        status, lines = self.command(left, routes, self.folder / "left")
+        self.assertEqual((status, len(lines), "traffic keeps left" in lines[0]), (0, 1, True))
 
     def parts_back(self, layout: Layout) -> dict[str, Any]:
         """The parts of the network that came back, by the names of the first one."""

@@ -194,7 +194,7 @@ class Node:
             if len(used) <= MOST_PHASES or not spare:
                 break
             gone = min(spare, key=lambda phase: self.phases[phase].seconds)
-            words = f"the green {self.phases[gone].state} is left out: a node has {MOST_PHASES} phases, and all in it are green elsewhere"
+            words = f"the green {self.phases[gone].state} is left out: a node has {MOST_PHASES} phases, and all are green elsewhere"
             self._lose("phase left out", words)
             kept = [phase for phase in used if phase != gone]
         if len(used) == 1 and len(kept) > 1:
