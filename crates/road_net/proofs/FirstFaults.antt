@@ -4,7 +4,7 @@ use Rattle.std.proofs.lemmas.Result.{err_from_is_err_and}
 use Rattle.foundation.specs.Firsts.{IsFirstWithout}
 use Rattle.foundation.proofs.ListLaws.{All-each}
 use Rattle.net_parts.specs.declared.faults.NetFault.{NetFault}
-use Rattle.net_parts.specs.declared.faults.NetFault.TheVariants.{NoMemory, Ends, Crowd, Shares, Phaseless, Clash}
+use Rattle.net_parts.specs.declared.faults.NetFault.TheVariants.{NoMemory, Ends, Crowd, Shares, Phaseless, Also, Clash, Yields, Walk}
 use Rattle.net_parts.specs.declared.roads.Link.{Link}
 use Rattle.net_parts.specs.declared.roads.Turn.{Turn}
 use Rattle.net_parts.specs.Numbers.{Net, no_link}
@@ -12,9 +12,9 @@ use Rattle.net_parts.specs.declared.parts.Parts.{Parts}
 use Rattle.net_parts.specs.FirstFaults.{Refuses}
 use Rattle.net_parts.specs.Parts.{net_of}
 use Rattle.road_net.specs.declared.NodeLinks.{NodeLinks}
-use Rattle.road_net.specs.FirstFaults.{IsJoinFault}
+use Rattle.road_net.specs.FirstFaults.{IsHomed, IsJoinFault}
 use Rattle.road_net.specs.Stored.{TestsEach, clash_at, HasFewAt}
-use Rattle.road_net.specs.Joins.{HasEnds, HasEndsAt, HaveFewEntries, AreByNode, HasSharesAt, AreShared, IsPhasedAt, ArePhased, conflict_at, IsConflict, IsConflictAt}
+use Rattle.road_net.specs.Joins.{HasEnds, HasEndsAt, HaveFewEntries, AreByNode, HasSharesAt, AreShared, IsPhasedAt, ArePhased, IsAlso, IsConflict, IsConflictAt, IsYield, IsWalk}
 use Rattle.road_net.specs.Network.{IsJoined, Joins}
 use Rattle.road_net.specs.Stored.{Links, Passes}
 use Rattle.road_net.specs.declared.joins.Side.TheVariants.{To}
@@ -33,7 +33,10 @@ module _ (net : Net) where
   fault-refuses (Crowd node) h = λ joined. h.1.here (joined.entries node h.1.below)
   fault-refuses (Shares link) h = λ joined. h.2.here (joined.shares link h.2.below)
   fault-refuses (Phaseless link) h = λ joined. h.3.here (joined.phases link h.3.below)
-  fault-refuses (Clash a b) h = λ joined. h.4.first.here (joined.conflicts h.4.place (0, 0) h.4.first.below)
+  fault-refuses (Also link) h = λ joined. h.1.here (joined.also link h.1.below)
+  fault-refuses (Clash a b) h = λ joined. h.2.first.here (joined.conflicts h.2.place (0, 0) h.2.first.below)
+  fault-refuses (Yields link) h = λ joined. h.3.here (joined.yields link h.3.below)
+  fault-refuses (Walk link) h = λ joined. h.4.here (joined.walks link h.4.below)
   fault-refuses _ h = absurd h
 
   -- what is answered at a fault of the joins
@@ -81,16 +84,32 @@ module _ (net : Net) (lists : List (List ℕ)) (by_node : AreByNode To net.links
       phases-fault links phase_links links_are phases_are fault h =
           fault-from net Phaseless (IsPhasedAt links phase_links) (length links) (λ k first. (have_ends, have_few, shares, rw (links_are, phases_are) at first)) fault h
 
-      module _ (phases : ArePhased net.links net.phase_links) where
-        conflicts-fault : (fault : NetFault) → TestsEach (clash_at net.conflicts) (IsConflictAt net) (length net.conflicts) (Err fault) → IsJoinFault net fault
-        conflicts-fault fault h =
-            fault-from net (clash_at net.conflicts) (IsConflictAt net) (length net.conflicts) (λ k first. (have_ends, have_few, shares, phases, record { place = k; there = refl; first = first })) fault h
+      -- a network that passes all of these
+      pub homed : ArePhased net.links net.phase_links → IsHomed net
+      homed phases = record { ends = have_ends; entries = have_few; shares = shares; phases = phases }
 
-        -- a network that passes all of them
-        pub passed : ((k : ℕ) → k < length net.conflicts → IsConflictAt net k) → IsJoined net
-        passed conflicts = record { ends = have_ends; entries = have_few; shares = shares; phases = phases; conflicts = All-each (IsConflict net) net.conflicts (0, 0) conflicts }
+-- the tests after these
+module _ (net : Net) (homed : IsHomed net) where
+  pub also-fault : (fault : NetFault) → TestsEach Also (IsAlso net) (length net.links) (Err fault) → IsJoinFault net fault
+  also-fault fault h = fault-from net Also (IsAlso net) (length net.links) (λ k first. (homed, first)) fault h
+
+  module _ (also : (k : ℕ) → k < length net.links → IsAlso net k) where
+    pub conflicts-fault : (fault : NetFault) → TestsEach (clash_at net.conflicts) (IsConflictAt net) (length net.conflicts) (Err fault) → IsJoinFault net fault
+    conflicts-fault fault h =
+        fault-from net (clash_at net.conflicts) (IsConflictAt net) (length net.conflicts) (λ k first. (homed, also, record { place = k; there = refl; first = first })) fault h
+
+    module _ (conflicts : (k : ℕ) → k < length net.conflicts → IsConflictAt net k) where
+      are_conflicts : All (IsConflict net) net.conflicts
+      are_conflicts = All-each (IsConflict net) net.conflicts (0, 0) conflicts
+
+      pub yields-fault : (fault : NetFault) → TestsEach Yields (IsYield net) (length net.links) (Err fault) → IsJoinFault net fault
+      yields-fault fault h = fault-from net Yields (IsYield net) (length net.links) (λ k first. (homed, also, are_conflicts, first)) fault h
+
+      module _ (yields : (k : ℕ) → k < length net.links → IsYield net k) where
+        walks-fault : (fault : NetFault) → TestsEach Walk (IsWalk net) (length net.links) (Err fault) → IsJoinFault net fault
+        walks-fault fault h = fault-from net Walk (IsWalk net) (length net.links) (λ k first. (homed, also, are_conflicts, yields, first)) fault h
 
         -- the last of them
-        pub conflicts-last : (result : Result (Unit {0}) NetFault) → TestsEach (clash_at net.conflicts) (IsConflictAt net) (length net.conflicts) result → Passes net result
-        conflicts-last (Ok _) h = passed h
-        conflicts-last (Err fault) h = conflicts-fault fault h
+        pub walks-last : (result : Result (Unit {0}) NetFault) → TestsEach Walk (IsWalk net) (length net.links) result → Passes net result
+        walks-last (Ok _) h = record { ends = homed.ends; entries = homed.entries; shares = homed.shares; phases = homed.phases; also = also; conflicts = are_conflicts; yields = yields; walks = h }
+        walks-last (Err fault) h = walks-fault fault h

@@ -1,5 +1,6 @@
 -- What the tests of the joins of a network depend on.
-use Rattle.std.proofs.Common.{ℕ, ◌<◌, ◌^◌, List, length, sum_by, arith}
+use Rattle.std.proofs.Common.{◌≡◌, ℕ, ◌+◌, ◌<◌, ◌^◌, List, length, sum_by, subst, inl, inr, arith}
+use Rattle.std.proofs.lemmas.Bool.{cases_lt}
 use Rattle.std.proofs.Math.Nat.{mul-le-mul_right}
 use Rattle.std.proofs.lemmas.List.Sums.{sum_by-le}
 use Rattle.net_parts.specs.declared.roads.Link.{Link}
@@ -27,3 +28,10 @@ crowded links nodes n lists by_node long =
       before = λ k h. rw (← by_node.each k (omega arith)) (long.before k h);
       here = λ short. long.here (rw (by_node.each n inside) short);
     }
+
+-- one number more of which it holds
+pub below-more : (fact : ℕ → Type 0) (n : ℕ) → ((k : ℕ) → k < n → fact k) → fact n → (k : ℕ) → k < n + 1 → fact k
+below-more fact n before here k h = elim (cases_lt k n) [
+  | inl earlier ↦ before k earlier
+  | inr past ↦ let same : n ≡ k = omega arith in subst fact same here
+]

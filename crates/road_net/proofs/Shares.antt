@@ -68,23 +68,25 @@ pub parts_of_link : (links : List Link) (turns : List Turn) (amount : ℕ) (to :
 parts_of_link links turns amount None shares some = absurd (false≢true some)
 parts_of_link links turns amount (Some node) shares some = parts-whole turns amount shares.differ shares.whole
 
--- exits that differ from each other differ from one that stands before them
-pub differ-later : (turns : List Turn) (i : ℕ) (d : Turn) → AllPairs (λ s t. s.exit ≢ t.exit) turns → All (λ t. t.exit ≢ (get_or turns i d).exit) (drop (i + 1) turns)
-differ-later turns i d differ k e h same =
-    let inside : i + 1 + k < length turns = omega (arith, length-drop (i + 1) turns) in
-    differ i (i + 1 + k) d (omega arith) inside (sym (rw (get_or-drop (i + 1) turns k e, get_or_default turns (i + 1 + k) e d inside) at same))
+-- elements whose numbers, by f, differ from each other
+module _ {X : Type 0} (f : X → ℕ) where
+  -- they differ from one that stands before them
+  pub differ-later : (xs : List X) (i : ℕ) (d : X) → AllPairs (λ s t. f s ≢ f t) xs → All (λ t. f t ≢ f (get_or xs i d)) (drop (i + 1) xs)
+  differ-later xs i d differ k e h same =
+      let inside : i + 1 + k < length xs = omega (arith, length-drop (i + 1) xs) in
+      differ i (i + 1 + k) d (omega arith) inside (sym (rw (get_or-drop (i + 1) xs k e, get_or_default xs (i + 1 + k) e d inside) at same))
 
--- one more turn that differs from all later ones
-pub differ-more : (turns : List Turn) (n : ℕ) (x : Turn) → x ≡ get_or turns n x → ((i j : ℕ) (d : Turn) → i < n → i < j → j < length turns → (get_or turns i d).exit ≢ (get_or turns j d).exit)
-    → All (λ t. t.exit ≢ x.exit) (drop (n + 1) turns) → (i j : ℕ) (d : Turn) → i < n + 1 → i < j → j < length turns → (get_or turns i d).exit ≢ (get_or turns j d).exit
-differ-more turns n x at before later i j d h less inside = elim (cases_lt i n) [
-  | inl earlier ↦ before i j d earlier less inside
-  | inr here ↦ differs-here turns n x at later i j d (omega arith) less inside
-]
-  where
-    differs-here : (turns : List Turn) (n : ℕ) (x : Turn) → x ≡ get_or turns n x → All (λ t. t.exit ≢ x.exit) (drop (n + 1) turns) → (i j : ℕ) (d : Turn) → i ≡ n → i < j → j < length turns → (get_or turns i d).exit ≢ (get_or turns j d).exit
-    differs-here turns n x at later i j d here less inside same =
-        let far : (n + 1) + (j - (n + 1)) ≡ j = omega arith in
-        let other : get_or (drop (n + 1) turns) (j - (n + 1)) d ≡ get_or turns j d = get_or-drop (n + 1) turns (j - (n + 1)) d ∙ ap (λ k. get_or turns k d) far in
-        let own : get_or turns i d ≡ x = ap (λ k. get_or turns k d) here ∙ get_or_default turns n d x (omega arith) ∙ sym at in
-        later (j - (n + 1)) d (omega (arith, length-drop (n + 1) turns)) (ap (λ t. t.exit) other ∙ sym same ∙ ap (λ t. t.exit) own)
+  differs-here : (xs : List X) (n : ℕ) (x : X) → x ≡ get_or xs n x → All (λ t. f t ≢ f x) (drop (n + 1) xs) → (i j : ℕ) (d : X) → i ≡ n → i < j → j < length xs → f (get_or xs i d) ≢ f (get_or xs j d)
+  differs-here xs n x at later i j d here less inside same =
+      let far : (n + 1) + (j - (n + 1)) ≡ j = omega arith in
+      let other : get_or (drop (n + 1) xs) (j - (n + 1)) d ≡ get_or xs j d = get_or-drop (n + 1) xs (j - (n + 1)) d ∙ ap (λ k. get_or xs k d) far in
+      let own : get_or xs i d ≡ x = ap (λ k. get_or xs k d) here ∙ get_or_default xs n d x (omega arith) ∙ sym at in
+      later (j - (n + 1)) d (omega (arith, length-drop (n + 1) xs)) (ap f other ∙ sym same ∙ ap f own)
+
+  -- one more that differs from all later ones
+  pub differ-more : (xs : List X) (n : ℕ) (x : X) → x ≡ get_or xs n x → ((i j : ℕ) (d : X) → i < n → i < j → j < length xs → f (get_or xs i d) ≢ f (get_or xs j d))
+      → All (λ t. f t ≢ f x) (drop (n + 1) xs) → (i j : ℕ) (d : X) → i < n + 1 → i < j → j < length xs → f (get_or xs i d) ≢ f (get_or xs j d)
+  differ-more xs n x at before later i j d h less inside = elim (cases_lt i n) [
+    | inl earlier ↦ before i j d earlier less inside
+    | inr here ↦ differs-here xs n x at later i j d (omega arith) less inside
+  ]

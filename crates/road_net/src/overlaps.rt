@@ -88,13 +88,42 @@ fn is_yield(parts: &Parts, l: u32) -> bool
     requires link { l < length parts.now.link_names }
     ensures { IsTrue result ↔ IsYield (net_of parts.now) l }
 {
-    let yields = parts.yields[l as usize].as_slice();
-    for (index, other) in yields.iter().enumerate() {
-        if !can_yield(parts, l, *other) || yields[index + 1..].contains(other) {
+    let others = parts.yields[l as usize].as_slice();
+    can_yield_to(parts, l, others) && are_distinct(others)
+}
+
+/// Whether the link may give way to each of these.
+fn can_yield_to(parts: &Parts, l: u32, others: &[u32]) -> bool
+    requires outline { IsOutline (net_of parts.now) }
+    requires link { l < length parts.now.link_names }
+    requires others { All (λ other. other < length parts.now.link_names) others.now }
+    ensures { IsTrue result ↔ All (GivesWay (net_of parts.now) l) others.now }
+{
+    for other in others {
+        if !can_yield(parts, l, *other) {
             return false;
         }
     }
     true
+}
+
+/// Whether no two of the links are the same.
+fn are_distinct(links: &[u32]) -> bool
+    ensures { IsTrue result ↔ AllPairs (λ a b. a ≢ b) links.now }
+{
+    for (index, link) in links.iter().enumerate() {
+        if !lacks(&links[index + 1..], *link) {
+            return false;
+        }
+    }
+    true
+}
+
+/// Whether the link is not one of these.
+fn lacks(links: &[u32], link: u32) -> bool
+    ensures { IsTrue result ↔ All (λ other. other ≢ link) links.now }
+{
+    links.iter().all(|other| *other != link)
 }
 
 /// Whether the link may give way to another one.

@@ -4,7 +4,7 @@ use Rattle.net_parts.specs.Outline.{AreTurns}
 use Rattle.net_parts.specs.Parts.{net_of}
 use Rattle.net_parts.proofs.OutlineLaws.{outline-few}
 use Rattle.road_net.specs.Joins.{share_of}
-use Rattle.road_net.proofs.FirstFaults.{halted, entries-fault, shares-fault, phases-fault, conflicts-last}
+use Rattle.road_net.proofs.FirstFaults.{halted, entries-fault, shares-fault, phases-fault, homed}
 use Rattle.road_net.proofs.Joining.{shares-small}
 use Rattle.road_net.proofs.check_joins.Goals as goal
 
@@ -35,8 +35,8 @@ returns-in_err-check_phases c =
     let first = phases-fault net c.args.entry.now c.requires.entry c.requires.ends c.in_ok-check_entries.ensures shares _ _ c.as_slice-links.ensures.value c.as_slice-2.ensures.value _ c.in_err-check_phases.ensures in
     halted net _ c.from_residual-in_err-check_phases.result first c.from_residual-in_err-check_phases.ensures.1
 
-pub returns : goal.returns
-returns c =
+pub check_overlaps-requires-clause-homed : goal.check_overlaps-requires-clause-homed
+check_overlaps-requires-clause-homed c =
     let shares = (rw (c.as_slice-links.ensures.value, c.as_slice.ensures.value) at c.in_ok-check_shares.ensures) in
     let phases = (rw (c.as_slice-links.ensures.value, c.as_slice-2.ensures.value) at c.in_ok-check_phases.ensures) in
-    conflicts-last (net_of c.args.parts.now) c.args.entry.now c.requires.entry c.requires.ends c.in_ok-check_entries.ensures shares phases c.check_conflicts.result c.check_conflicts.ensures
+    homed (net_of c.args.parts.now) c.args.entry.now c.requires.entry c.requires.ends c.in_ok-check_entries.ensures shares phases
