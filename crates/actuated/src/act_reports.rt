@@ -13,7 +13,7 @@ use audit::line_report;
 use road_net::Network;
 use std::alloc::{AllocError, Global};
 
-/// The report of a run, that of its last lines and totals: the header, the greens that begin before the end of the
+/// The report of a run, that of its last lines and totals: the header, the greens that are told up to the end of the
 /// run, by node and time, the totals of each link, and all totals. It has no steps and no plans. The record has the
 /// network's shape. Where what it says is clean for arrivals of at most 2,000,000,000 in all, the text is read as a
 /// clean sheet. `Err`: out of memory.

@@ -1,16 +1,9 @@
 -- The text of records that tell a clean sheet is a clean text.
-use Rattle.std.proofs.Common.{ℕ, ◌*◌, ◌<◌, ◌≤◌, List, [], ◌∷◌, ◌++◌, length, All, nat_lt, sym, ◌∙◌, subst, inl, inr, arith}
-use Rattle.std.proofs.lemmas.Bool.{cases_Bool, ltb-true}
-use Rattle.std.proofs.lemmas.List.{length-map}
-use Rattle.std.proofs.lemmas.List.Elements.{All-cons, All-head, All-nil, All-tail}
-use Rattle.phase_plan.specs.Phases.{IsPlan}
-use Rattle.phase_plan.specs.declared.Phase.{Phase}
-use Rattle.phase_plan.proofs.RingLaws.{phase-bounds}
+use Rattle.std.proofs.Common.{ℕ, ◌*◌, ◌<◌, ◌≤◌, List, ◌∷◌, ◌++◌, length, All, sym, subst, arith}
+use Rattle.std.proofs.lemmas.List.FromFn.{length-map-range_with_len}
 use Rattle.net_parts.specs.Numbers.{Net}
-use Rattle.net_parts.specs.Outline.{plan_at}
 use Rattle.road_net.specs.Network.{IsNetwork}
 use Rattle.road_net.proofs.TotalLaws.{total-le}
-use Rattle.control_flow.specs.Greens.{IsGreen}
 use Rattle.control_flow.specs.declared.greens.Green.{Green}
 use Rattle.net_simulator.specs.Flow.{Cumulative}
 use Rattle.net_simulator.specs.Sums.{AreFew, delay, end_of_run, link_totals, totals}
@@ -18,36 +11,17 @@ use Rattle.net_simulator.specs.Worlds.{line_in, signs_by}
 use Rattle.net_simulator.proofs.Conserving.{left-entered}
 use Rattle.net_simulator.proofs.Passing.{delay-small, entered-small, gone-most, on-road-most, sound-at}
 use Rattle.net_simulator.proofs.Sums.{total-of}
-use Rattle.signal_safety.proofs.Lines.{plan-is}
 use Rattle.audit.specs.declared.sheet.Sheet.{Sheet}
 use Rattle.audit.specs.SheetTexts.{HasShape, IsSheetText}
-use Rattle.audit.specs.WrittenSheets.{AreToldCounts, AreToldSums, CanBeTold, IsPassedOver, IsToldGreen, begun_before, cut_at, sheet_records}
+use Rattle.audit.specs.WrittenSheets.{AreToldCounts, AreToldSums, CanBeTold, IsPassedOver, cut_at, sheet_records}
 use Rattle.audit.proofs.SheetTextLaws.{one-sheet}
 use Rattle.audit.proofs.WrittenSheetLaws.{written-sheet}
 use Rattle.world_records.specs.Records.{header, records_text}
+use Rattle.world_records.specs.Told.{IsToldGreen, told_line}
 use Rattle.audit.specs.Audits.{IsClean, IsCleanText}
 use Rattle.net_simulator.specs.Shown.{cumulative_of_lines}
 use Rattle.audit.proofs.CutLaws.{cut-clean, cut-line}
 use Rattle.control_flow.specs.declared.greens.Sign.{Sign}
-
--- the greens of a plan that begin before a second can be told
-parsed-greens : (plan : List Phase) (end : ℕ) → IsPlan plan → end ≤ 18000 → (rows : List Green) → All (IsGreen plan) rows → All IsToldGreen (begun_before end rows)
-parsed-greens plan end p early [] greens = All-nil IsToldGreen
-parsed-greens plan end p early (row ∷ rows) greens =
-    let rest = parsed-greens plan end p early rows (All-tail (IsGreen plan) row rows greens) in
-    elim (cases_Bool (nat_lt row.from end)) [
-      | inr other ↦ rw other rest
-      | inl begun ↦
-          let green = All-head (IsGreen plan) row rows greens in
-          let times = phase-bounds plan row.phase p green.phase in
-          let before = ltb-true row.from end begun in
-          rw begun (All-cons IsToldGreen row (begun_before end rows)
-          (record {
-            phase = omega (arith, green.phase, p.count.1);
-            from = omega (arith, before, early);
-            to = omega (arith, green.greatest, times.greatest.1, before, early);
-          }) rest)
-    ]
 
 -- what the world has counted at the end of the run can be told
 module _ (net : Net) (network : IsNetwork net) (arriving : ℕ → ℕ → ℕ) (few : AreFew net arriving) (lines : List (List Green)) where
@@ -86,27 +60,27 @@ module _ (net : Net) (network : IsNetwork net) (arriving : ℕ → ℕ → ℕ) 
         delay = omega (arith, each, total-of 36000000000000 (length net.link_names), network.outline.link_count.1);
       }
 
-module _ (net : Net) (network : IsNetwork net) (arriving : ℕ → ℕ → ℕ) (few : AreFew net arriving) (s : Sheet) (shape : HasShape net s) (clean : IsClean net arriving s) where
-  -- a clean sheet can be told
-  can-parsed : CanBeTold net (cut_at (end_of_run net) s)
+module _ (net : Net) (network : IsNetwork net) (arriving : ℕ → ℕ → ℕ) (few : AreFew net arriving) (s : Sheet) (shape : HasShape net s) (clean : IsClean net arriving s)
+    (fits : (node : ℕ) → node < length net.node_names → All IsToldGreen (told_line net s.lines (end_of_run net) node)) where
+  -- a clean sheet can be told, where its greens can
+  can-parsed : CanBeTold net (cut_at net (end_of_run net) s)
   can-parsed = record {
-    lines = length-map s.lines (begun_before (end_of_run net)) ∙ shape.lines;
+    lines = length-map-range_with_len (told_line net s.lines (end_of_run net)) 0 (length net.node_names);
     links = shape.links;
-    greens = λ node below. subst (All IsToldGreen) (sym (cut-line (end_of_run net) s.lines node))
-        (parsed-greens (plan_at net node) (end_of_run net) (plan-is net network node below) (early net network arriving few s.lines) (line_in s.lines node) (clean.lawful node below).greens);
+    greens = λ node below. subst (All IsToldGreen) (sym (cut-line net (end_of_run net) s node below)) (fits node below);
     counts = λ l below. subst AreToldCounts (sym (clean.links l below)) (parsed-counts net network arriving few s.lines l below);
     totals = subst AreToldSums (sym clean.all) (parsed-sums net network arriving few s.lines);
   }
 
-  -- The text of records that tell it, with the greens alone that begin before the end of the run, is a clean text; other records may
-  -- stand before these that a sheet passes over.
+  -- The text of records that tell it, with the greens alone that a report tells, is a clean text; other records may stand before these
+  -- that a sheet passes over.
   pub clean-text : (passed : List (List (List ℕ))) → All IsPassedOver passed → IsCleanText net arriving (records_text (header ∷ (passed ++ sheet_records net (end_of_run net) s)))
   clean-text passed over =
       let bytes : List ℕ = records_text (header ∷ (passed ++ sheet_records net (end_of_run net) s)) in
-      let text : IsSheetText net bytes (cut_at (end_of_run net) s) = written-sheet net network passed over (end_of_run net) s can-parsed in
+      let text : IsSheetText net bytes (cut_at net (end_of_run net) s) = written-sheet net network passed over (end_of_run net) s can-parsed in
       record {
-        sheet = cut_at (end_of_run net) s;
+        sheet = cut_at net (end_of_run net) s;
         is_text = text;
-        only = λ other is. one-sheet net _ other (cut_at (end_of_run net) s) is text;
+        only = λ other is. one-sheet net _ other (cut_at net (end_of_run net) s) is text;
         clean = cut-clean net network arriving s clean;
       }

@@ -1,5 +1,5 @@
 -- The parts of a report, one after another.
-use Rattle.std.proofs.Common.{◌≡◌, ℕ, [], ◌∷◌, Vec}
+use Rattle.std.proofs.Common.{ℕ, ◌<◌, [], ◌∷◌, length, All, Vec}
 use Rattle.std.proofs.lemmas.List.Elements.{All-nil}
 use Rattle.csv.specs.declared.writer.Writer.{Writer}
 use Rattle.net_simulator.specs.Sums.{AreFew, end_of_run}
@@ -9,6 +9,7 @@ use Rattle.audit.specs.declared.sheet.Sheet.{Sheet}
 use Rattle.audit.specs.SheetTexts.{HasShape}
 use Rattle.audit.specs.WrittenSheets.{IsPassedOver}
 use Rattle.world_records.specs.Records.{header, shown_records}
+use Rattle.world_records.specs.Told.{IsToldGreen, told_line}
 use Rattle.world_records.specs.Written.{Adds, HasWritten}
 use Rattle.world_records.proofs.WrittenLaws.{adds-then}
 use Rattle.audit.specs.Audits.{IsClean, IsCleanText}
@@ -22,5 +23,5 @@ report-parts net s o0 o1 o2 begun first shown = (adds-then o0 o1 o2 _ _ first sh
 
 -- the report of what is clean is read as a clean sheet
 pub report-clean : (net : Net) → IsNetwork net → (arriving : ℕ → ℕ → ℕ) → AreFew net arriving → (s : Sheet) → HasShape net s → IsClean net arriving s
-    → IsCleanText net arriving (line_text net s)
-report-clean net network arriving few s shape clean = clean-text net network arriving few s shape clean [] (All-nil IsPassedOver)
+    → ((node : ℕ) → node < length net.node_names → All IsToldGreen (told_line net s.lines (end_of_run net) node)) → IsCleanText net arriving (line_text net s)
+report-clean net network arriving few s shape clean fits = clean-text net network arriving few s shape clean fits [] (All-nil IsPassedOver)

@@ -1,12 +1,12 @@
 -- Records by which a sheet is told are the text of it.
-use Rattle.std.proofs.Common.{◌≡◌, ◌≢◌, ℕ, zero, suc, ◌+◌, ◌<◌, ◌≤◌, true, false, List, [], ◌∷◌, ◌++◌, length, filter_map, get_or, map, Option, Some, None, All, refl, sym, ap, ◌∙◌, subst, inl, inr, arith, append-nil, slice_index_or}
+use Rattle.std.proofs.Common.{◌≡◌, ◌≢◌, ℕ, zero, suc, ◌+◌, ◌<◌, ◌≤◌, true, false, List, [], ◌∷◌, ◌++◌, length, filter_map, get_or, map, Option, Some, None, All, refl, sym, ap, ◌∙◌, subst, inl, inr, arith, append-nil}
 use Rattle.std.specs.List.{flat_map, range_with_len}
 use Rattle.std.specs.Fmt.{decimal}
 use Rattle.std.specs.Str.{bytes_eq}
 use Rattle.std.proofs.lemmas.Bool.{cases_lt, cases_Bool}
 use Rattle.std.proofs.lemmas.List.{get_or-map, length-map, same_lists}
 use Rattle.std.proofs.lemmas.List.Elements.{All-append, All-cons, All-head, All-tail, All-map, All-nil, Contains-get_or, filter_map-append}
-use Rattle.std.proofs.lemmas.List.FromFn.{fill_by_all, get_or-range_with_len, length-range_with_len}
+use Rattle.std.proofs.lemmas.List.FromFn.{fill_by_all, get_or-map-range_with_len, get_or-range_with_len, length-range_with_len}
 use Rattle.std.proofs.lemmas.Option.{same_Some}
 use Rattle.std.proofs.lemmas.Slice.Eq.{bytes_eq-Decides}
 use Rattle.foundation.specs.Options.{each}
@@ -19,12 +19,13 @@ use Rattle.net_simulator.specs.declared.totals.LinkTotals.{LinkTotals}
 use Rattle.net_simulator.specs.declared.totals.Totals.{Totals}
 use Rattle.road_net.specs.Network.{IsNetwork}
 use Rattle.world_records.specs.Records.{green_record, green_records, header, link_record, link_record_of, records_text, total_record}
+use Rattle.world_records.specs.Told.{IsToldGreen, told_line}
 use Rattle.world_records.proofs.RecordLaws.{HasField, header-first, read-records}
 use Rattle.audit.specs.declared.sheet.Sheet.{Sheet}
 use Rattle.audit.specs.SheetTexts.{IsSheetOf, IsSheetText, NamesNode, counts_of, form, green_of, link_of, sums_of}
 use Rattle.record_text.specs.Forms.{AreRecordsOf}
 use Rattle.audit.specs.SheetRecords.{Counts, Ignored, Shows, Sums, SheetRecord, parse_fields, parse, parse_green, parse_counts, parse_sums}
-use Rattle.audit.specs.WrittenSheets.{AreToldCounts, AreToldSums, CanBeTold, IsPassedOver, IsToldGreen, begun_before, cut_at, sheet_records}
+use Rattle.audit.specs.WrittenSheets.{AreToldCounts, AreToldSums, CanBeTold, IsPassedOver, cut_at, sheet_records}
 use Rattle.audit.proofs.SheetFieldLaws.{some-number}
 
 -- two lists that are read one after the other
@@ -140,7 +141,7 @@ module _ (name_of : ℕ → List ℕ) (rows : ℕ → List Green) where
             ∙ ap (λ l. rows node ++ l) (none-of name (s + 1) n (λ k from to. differ k (omega arith) (omega arith) (λ e. omega (arith, from, e, here)))) ∙ append-nil (rows node)
       ]
 
-module _ (net : Net) (network : IsNetwork net) (passed : List (List (List ℕ))) (over : All IsPassedOver passed) (end : ℕ) (s : Sheet) (can : CanBeTold net (cut_at end s)) where
+module _ (net : Net) (network : IsNetwork net) (passed : List (List (List ℕ))) (over : All IsPassedOver passed) (end : ℕ) (s : Sheet) (can : CanBeTold net (cut_at net end s)) where
   abbrev nodes : ℕ
   nodes = length net.node_names
 
@@ -149,7 +150,7 @@ module _ (net : Net) (network : IsNetwork net) (passed : List (List (List ℕ)))
 
   -- the greens of a node that are told, and those of all nodes
   abbrev rows : ℕ → List Green
-  rows node = begun_before end (slice_index_or s.lines node [])
+  rows node = told_line net s.lines end node
 
   -- a name of another node
   other-name : (node k : ℕ) → node < nodes → k < nodes → k ≢ node → bytes_eq (node_name_at net k) (node_name_at net node) ≡ false
@@ -177,7 +178,7 @@ module _ (net : Net) (network : IsNetwork net) (passed : List (List (List ℕ)))
 
   -- the records tell it
   fits-rows : (node : ℕ) → node < nodes → All IsToldGreen (rows node)
-  fits-rows node below = subst (All IsToldGreen) (get_or-map (begun_before end) s.lines node [] [] (let e = can.lines in let f = length-map s.lines (begun_before end) in omega (arith, below, e, f))) (can.greens node below)
+  fits-rows node below = subst (All IsToldGreen) (get_or-map-range_with_len rows 0 nodes node node [] below (omega arith)) (can.greens node below)
 
   reads-passed : each parse passed ≡ Some told_passed
   reads-passed = subst (λ (l : List (List (List ℕ))). each parse l ≡ Some told_passed) (map-same passed) (each-of parse (λ fields. fields) (λ fields. Ignored) passed over)
@@ -250,19 +251,18 @@ module _ (net : Net) (network : IsNetwork net) (passed : List (List (List ℕ)))
           (All-map (NamesNode net) (Shows (node_name_at net node)) (rows node) (λ k d inside. Contains-get_or net.node_names node [] (All-head (λ node. node < nodes) node ks below)))
           (named-greens ks (All-tail (λ node. node < nodes) node ks below))
 
-  lines-parsed : map (begun_before end) s.lines ≡ map (λ node. filter_map (green_of node) all_told) net.node_names
-  lines-parsed = same_lists (map (begun_before end) s.lines) (map line_of net.node_names) (can.lines ∙ sym (length-map net.node_names line_of)) at
+  lines-parsed : map rows (range_with_len 0 nodes) ≡ map (λ node. filter_map (green_of node) all_told) net.node_names
+  lines-parsed = same_lists (map rows (range_with_len 0 nodes)) (map line_of net.node_names) (can.lines ∙ sym (length-map net.node_names line_of)) at
     where
       line_of : List ℕ → List Green
       line_of name = filter_map (green_of name) all_told
 
-      at : (k : ℕ) (d : List Green) → k < length (map (begun_before end) s.lines) → get_or (map (begun_before end) s.lines) k d ≡ get_or (map line_of net.node_names) k d
+      at : (k : ℕ) (d : List Green) → k < length (map rows (range_with_len 0 nodes)) → get_or (map rows (range_with_len 0 nodes)) k d ≡ get_or (map line_of net.node_names) k d
       at k d inside =
-          let long = length-map s.lines (begun_before end) in
           let below : k < nodes = omega (arith, inside, can.lines) in
-          get_or-map (begun_before end) s.lines k [] d (omega (arith, inside, long)) ∙ sym (shown-at k below) ∙ sym (get_or-map line_of net.node_names k [] d below)
+          get_or-map-range_with_len rows 0 nodes k k d below (omega arith) ∙ sym (shown-at k below) ∙ sym (get_or-map line_of net.node_names k [] d below)
 
-  is-sheet : IsSheetOf net all_told (cut_at end s)
+  is-sheet : IsSheetOf net all_told (cut_at net end s)
   is-sheet = record {
     nodes = names-nodes;
     shown = lines-parsed;
@@ -272,9 +272,9 @@ module _ (net : Net) (network : IsNetwork net) (passed : List (List (List ℕ)))
   }
 
   -- the text of the records is that of the sheet
-  pub written-sheet : IsSheetText net (records_text (header ∷ (passed ++ sheet_records net end s))) (cut_at end s)
+  pub written-sheet : IsSheetText net (records_text (header ∷ (passed ++ sheet_records net end s))) (cut_at net end s)
   written-sheet =
-      let are : AreRecordsOf (form net) (header ∷ (passed ++ sheet_records net end s)) (cut_at end s) = record { records = _; are = refl; parsed = all_told; reads = reads-all; is = is-sheet } in
+      let are : AreRecordsOf (form net) (header ∷ (passed ++ sheet_records net end s)) (cut_at net end s) = record { records = _; are = refl; parsed = all_told; reads = reads-all; is = is-sheet } in
       let (rest, begins) = header-first (passed ++ sheet_records net end s) in
       let some : All HasField (header ∷ (passed ++ sheet_records net end s)) = All-cons HasField header _ (omega arith) (each-good parse HasField has-field (passed ++ sheet_records net end s) all_told reads-all) in
-      subst (λ (l : List (List (List ℕ))). AreRecordsOf (form net) l (cut_at end s)) (sym (read-records (header ∷ (passed ++ sheet_records net end s)) rest begins some)) are
+      subst (λ (l : List (List (List ℕ))). AreRecordsOf (form net) l (cut_at net end s)) (sym (read-records (header ∷ (passed ++ sheet_records net end s)) rest begins some)) are

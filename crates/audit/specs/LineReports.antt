@@ -5,7 +5,7 @@ use Rattle.net_simulator.specs.Sums.{end_of_run}
 use Rattle.audit.specs.declared.sheet.Sheet.{Sheet}
 use Rattle.world_records.specs.Records.{header, records_text, shown_records}
 
--- the records of a report: the header; the greens that begin before the end of the run, by node and time; the links; all totals
+-- the records of a report: the header; the greens that are told up to the end of the run, by node and time; the links; all totals
 abbrev pub line_records : Net → Sheet → List (List (List ℕ))
 line_records net s = header ∷ shown_records net s.lines s.links s.totals (end_of_run net)
 

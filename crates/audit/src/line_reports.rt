@@ -13,7 +13,7 @@ use road_net::{Network, law_of_network};
 use std::alloc::{AllocError, Global};
 use world_records::{finish, start, write_header, write_shown};
 
-/// The report of lines and totals: the header, the greens that begin before the end of the run, by node and time, the
+/// The report of lines and totals: the header, the greens that are told up to the end of the run, by node and time, the
 /// totals of each link, and all totals. It has no steps and no plans. There are a line for each node and totals of
 /// each link. Where what it says is clean for arrivals of at most 2,000,000,000 in all, the text is read as a clean
 /// sheet. `Err`: out of memory.

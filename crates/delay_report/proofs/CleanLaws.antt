@@ -1,9 +1,14 @@
 -- The report of a run is a clean text.
-use Rattle.std.proofs.Common.{◌≡◌, ℕ, ◌<◌, codes, List, ◌∷◌, ◌++◌, length, map, get_or, All, refl, sym, ap, ◌∙◌, subst, arith, append_assoc}
+use Rattle.std.proofs.Common.{◌≡◌, ℕ, zero, suc, ◌<◌, ◌≤◌, codes, List, [], ◌∷◌, ◌++◌, length, map, get_or, All, refl, sym, ap, ◌∙◌, subst, arith, append_assoc}
 use Rattle.std.specs.Fmt.{decimal}
 use Rattle.std.specs.List.{join_with_byte, range_with_len}
 use Rattle.std.proofs.lemmas.List.Elements.{All-append, All-map}
 use Rattle.std.proofs.lemmas.List.FromFn.{get_or-map-range_with_len, length-map-range_with_len}
+use Rattle.phase_plan.specs.Phases.{IsPlan}
+use Rattle.phase_plan.specs.declared.Phase.{Phase}
+use Rattle.phase_plan.proofs.RingLaws.{phase-bounds}
+use Rattle.control_flow.specs.Greens.{BeginBy, IsGreen, row_at}
+use Rattle.control_flow.specs.declared.greens.Green.{Green}
 use Rattle.histories.specs.Histories.{step_at}
 use Rattle.histories.specs.Steps.{board_steps}
 use Rattle.histories.specs.declared.steps.BoardStep.{BoardStep}
@@ -12,8 +17,9 @@ use Rattle.intersection_actor.specs.Commits.{Commitment}
 use Rattle.intersection_actor.specs.PlanFields.{used_text}
 use Rattle.intersection_actor.specs.declared.records.PlanRecord.{PlanRecord}
 use Rattle.net_parts.specs.Numbers.{Net}
-use Rattle.net_parts.specs.Outline.{node_name_at}
+use Rattle.net_parts.specs.Outline.{node_name_at, plan_at}
 use Rattle.road_net.specs.Network.{IsNetwork}
+use Rattle.road_net.specs.Through.{is_through}
 use Rattle.net_simulator.specs.Counts.{counts_at, no_totals}
 use Rattle.net_simulator.specs.Flow.{Cumulative}
 use Rattle.net_simulator.specs.Sums.{AreFew, end_of_run, link_totals, totals}
@@ -23,6 +29,7 @@ use Rattle.schedule_meaning.specs.declared.planners.Answer.TheVariants.{Plan, No
 use Rattle.runs.specs.Promises.{IsKeptRun}
 use Rattle.runs.specs.Runs.{cumulative_by, line_before, shown_by}
 use Rattle.runs.specs.declared.records.RunRecord.{RunRecord}
+use Rattle.runs.proofs.Keep.{all-keep}
 use Rattle.net_simulator.proofs.AtNodes.{past-at-nodes}
 use Rattle.audit.specs.declared.sheet.Sheet.{Sheet}
 use Rattle.audit.specs.SheetTexts.{HasShape}
@@ -32,6 +39,8 @@ use Rattle.audit.specs.Audits.{IsClean, IsCleanText}
 use Rattle.net_simulator.specs.Shown.{cumulative_of_lines}
 use Rattle.audit.proofs.CleanTexts.{clean-text}
 use Rattle.world_records.specs.Records.{header, records_text}
+use Rattle.world_records.specs.Told.{IsToldGreen, told_line}
+use Rattle.world_records.proofs.ToldSigns.{told-all}
 use Rattle.delay_report.specs.Reports.{answer_fields, plan_record, report_records, report_text, step_record, step_record_at}
 
 -- the records of steps and of plans are passed over
@@ -79,6 +88,32 @@ module _ (net : Net) (network : IsNetwork net) (arriving : ℕ → ℕ → ℕ) 
     links = ap length kept.run.by.links ∙ length-map-range_with_len (link_totals net (cumulative_by net arriving made end) end) 0 (length net.link_names);
   }
 
+  -- the rows of the last lines begin by 100,000, so a report can tell them
+  begins-after : (rounds : ℕ) → 0 < rounds → rounds ≤ net.run.rounds → (node : ℕ) → node < length net.node_names → BeginBy 100000 (line_before net made rounds node)
+  begins-after zero some most node below = absurd (omega (arith, some))
+  begins-after (suc rounds) some most node below = (all-keep net network arriving kept.run.heard made net.run.rounds (omega arith) kept.run.by.commits rounds node (omega (arith, most)) below).line.begins
+
+  begins-last : (node : ℕ) → node < length net.node_names → BeginBy 100000 (line_in run.timelines node)
+  begins-last node below = subst (BeginBy 100000)
+      (sym (ap (λ lines. line_in lines node) kept.run.by.timelines ∙ get_or-map-range_with_len (line_before net made net.run.rounds) 0 (length net.node_names) node node [] below (omega arith)))
+      (begins-after net.run.rounds network.outline.run.rounds.0 (omega arith) node below)
+
+  row-fits : (plan : List Phase) → IsPlan plan → (row : Green) → IsGreen plan row → row.from ≤ 100000 → IsToldGreen row
+  row-fits plan p row green begin =
+      let times = phase-bounds plan row.phase p green.phase in
+      record {
+        phase = omega (arith, green.phase, p.count.1);
+        from = omega (arith, begin);
+        to = omega (arith, green.greatest, times.greatest.1, begin);
+      }
+
+  told-fits : (node : ℕ) → node < length net.node_names → All IsToldGreen (told_line net run.timelines end node)
+  told-fits node below =
+      let rows : List Green = line_in run.timelines node in
+      let greens = (kept.kept.lawful node below).greens in
+      told-all IsToldGreen (is_through net node) end (row_at rows 0).from rows
+      (λ k d inside. row-fits (plan_at net node) (network.outline.plans node [] (omega (arith, below, network.outline.plan_count))) (get_or rows k d) (greens k d inside) (begins-last node below k d inside))
+
   -- the records of the report
   pub report-clean : IsCleanText net arriving (report_text net run history)
   unfolding report_records
@@ -90,4 +125,4 @@ module _ (net : Net) (network : IsNetwork net) (arriving : ℕ → ℕ → ℕ) 
       (All-map IsPassedOver (step_record_at net history) (range_with_len 0 (length history)) (λ k d inside. step-over net _ _ _ (step_at (board_steps net) history _)))
       (All-map IsPassedOver (plan_record net) run.plans (λ k d inside. plan-over net (get_or run.plans k d))) in
       subst (λ (records : List (List (List ℕ))). IsCleanText net arriving (records_text (header ∷ records))) (append_assoc steps plans (sheet_records net end sheet))
-      (clean-text net network arriving few sheet sheet-shape sheet-clean (steps ++ plans) over)
+      (clean-text net network arriving few sheet sheet-shape sheet-clean told-fits (steps ++ plans) over)

@@ -1,5 +1,5 @@
 -- A report is a text of its history.
-use Rattle.std.proofs.Common.{◌≡◌, ℕ, ◌+◌, ◌<◌, codes, List, [], ◌∷◌, ◌++◌, length, get_or, map, filter, Some, All, refl, sym, ap, ◌∙◌, subst, inl, inr, arith, append-nil, nat_lt, slice_index_or}
+use Rattle.std.proofs.Common.{◌≡◌, ℕ, ◌+◌, ◌<◌, codes, List, [], ◌∷◌, ◌++◌, length, get_or, map, Some, All, refl, sym, ap, ◌∙◌, subst, inl, inr, arith, append-nil}
 use Rattle.std.specs.List.{concat, flat_map, range_with_len}
 use Rattle.std.proofs.lemmas.Bool.{cases_Bool}
 use Rattle.std.proofs.lemmas.List.Folds.{concat-append}
@@ -22,6 +22,7 @@ use Rattle.runs.specs.declared.records.RunRecord.{RunRecord}
 use Rattle.schedule_meaning.specs.declared.planners.Answer.{Answer}
 use Rattle.schedule_meaning.specs.declared.planners.Answer.TheVariants.{Plan, NoPlan}
 use Rattle.world_records.specs.Records.{green_record, green_records, header, link_record_of, total_record}
+use Rattle.world_records.specs.Told.{told_line}
 use Rattle.audit.proofs.WrittenSheetLaws.{each-both}
 use Rattle.delay_report.specs.Entries.{steps_of}
 use Rattle.delay_report.specs.Reports.{answer_fields, plan_record, report_records, report_text, step_record, step_record_at}
@@ -116,7 +117,7 @@ module _ (net : Net) (network : IsNetwork net) (run : RunRecord) (h : List ℕ) 
   plans-tell = tells-nothing net (plan_record net) (λ plan. plan-passed net _ _ _ plan.answer) run.plans
 
   greens-tell : (nodes : List ℕ) → Tells net (flat_map (green_records net run.timelines (end_of_run net)) nodes) []
-  greens-tell nodes = tells-parts net (green_records net run.timelines (end_of_run net)) (λ node. tells-nothing net (green_record net node) (λ green. green-passed net _ _ _ _ _ _) (filter (λ green. nat_lt green.from (end_of_run net)) (slice_index_or run.timelines node []))) nodes
+  greens-tell nodes = tells-parts net (green_records net run.timelines (end_of_run net)) (λ node. tells-nothing net (green_record net node) (λ green. green-passed net _ _ _ _ _ _) (told_line net run.timelines (end_of_run net) node)) nodes
 
   links-tell : (links : List ℕ) → Tells net (map (link_record_of net run.links) links) []
   links-tell links = tells-nothing net (link_record_of net run.links) (λ link. link-passed net _ _ _ _ _ _) links

@@ -41,8 +41,8 @@ plan_record net plan = codes "plan" ∷ decimal plan.round ∷ node_name_at net 
 abbrev pub steps_records : Net → List ℕ → List (List (List ℕ))
 steps_records net history = header ∷ map (step_record_at net history) (range_with_len 0 (length history))
 
--- the records of the outcome of a run: the plans by round and node; the greens by node and time; the totals of each link; and the
--- totals of the whole network
+-- the records of the outcome of a run: the plans by round and node; the greens that are told, by node and time; the totals of each
+-- link; and the totals of the whole network
 abbrev pub outcome_records : Net → RunRecord → List (List (List ℕ))
 outcome_records net run =
     map (plan_record net) run.plans ++ shown_records net run.timelines run.links run.totals (end_of_run net)

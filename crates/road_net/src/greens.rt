@@ -1,9 +1,11 @@
 //! The phases in which links are green.
 ghost use Rattle.std.specs.Prelude.{◌≡◌, ◌<◌, ◌↔◌, IsTrue, [], length, slice_index_or};
+ghost use Rattle.std.specs.List.{list_any};
 ghost use Rattle.net_parts.specs.Numbers.{has_link};
 ghost use Rattle.net_parts.specs.Outline.{IsOutline, is_green_in};
 ghost use Rattle.net_parts.specs.Parts.{net_of};
 ghost use Rattle.road_net.specs.Joins.{AreNeverBoth};
+ghost use Rattle.road_net.specs.Through.{is_through, names_further};
 
 use foundation::items::Items;
 use net_parts::Parts;
@@ -46,4 +48,26 @@ pub(crate) fn are_never_both(parts: &Parts, a: u32, b: u32) -> bool
         }
     }
     true
+}
+
+/// Whether a phase of the node names a further link.
+pub(crate) fn is_through(parts: &Parts, node: u32) -> bool
+    requires { node < length parts.now.also_links.items }
+    ensures { result ≡ is_through (net_of parts.now) node }
+{
+    names_any(parts.also_links[node as usize].as_slice())
+}
+
+/// Whether one of these lists has a link.
+fn names_any(lists: &[Items<u32>]) -> bool
+    ensures { result ≡ list_any names_further lists.now }
+{
+    lists.iter().any(|links| names_further(links.as_slice()))
+}
+
+/// Whether a list has a link.
+fn names_further(links: &[u32]) -> bool
+    ensures { result ≡ names_further links.now }
+{
+    links.len() > 0
 }

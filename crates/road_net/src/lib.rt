@@ -62,6 +62,7 @@ impl Network {
     ghost use Rattle.net_parts.specs.Outline.{link_at, turns_at, yields_at, plan_at, phases_at, phase_links_at, also_links_at, is_green_in, node_name_at, link_name_at};
     ghost use Rattle.road_net.specs.Network.{IsNetwork, entry_links, exit_links, AreApart};
     ghost use Rattle.road_net.specs.Totals.{total};
+    ghost use Rattle.road_net.specs.Through.{is_through};
 
     /// The parts that it was made of.
     pub fn parts(&self) -> &Parts
@@ -142,6 +143,17 @@ impl Network {
         ensures network { IsNetwork self.now }
     {
         greens::is_green(&self.parts, l, phase)
+    }
+
+    /// Whether the node is through: a link that ends there has two greens, and may stay green through a change between the two.
+    ///
+    /// docs/RULES.md, "Links".
+    pub fn is_through(&self, node: u32) -> bool
+        requires { node < length self.now.node_names }
+        ensures value { result ≡ is_through self.now node }
+        ensures network { IsNetwork self.now }
+    {
+        greens::is_through(&self.parts, node)
     }
 
     /// The links that end at a node, at most 16, in number order.

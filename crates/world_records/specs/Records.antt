@@ -1,5 +1,5 @@
 -- The records of what the signals showed and the world counted, and the text of records.
-use Rattle.std.specs.Prelude.{codes, nat_lt, ℕ, List, [], ◌∷◌, ◌++◌, filter, length, map, slice_index_or}
+use Rattle.std.specs.Prelude.{codes, ℕ, List, [], ◌∷◌, ◌++◌, length, map, slice_index_or}
 use Rattle.std.specs.Fmt.{decimal}
 use Rattle.std.specs.List.{flat_map, range_with_len}
 use Rattle.csv.specs.Writing.{default_writer, row_text}
@@ -8,6 +8,7 @@ use Rattle.net_parts.specs.Numbers.{Net}
 use Rattle.net_parts.specs.Outline.{link_name_at, node_name_at}
 use Rattle.net_simulator.specs.declared.totals.LinkTotals.{LinkTotals}
 use Rattle.net_simulator.specs.declared.totals.Totals.{Totals}
+use Rattle.world_records.specs.Told.{told_line}
 
 -- the header
 abbrev pub header : List (List ℕ)
@@ -17,9 +18,9 @@ header = codes "kind" ∷ codes "round" ∷ codes "node" ∷ codes "x" ∷ codes
 abbrev pub green_record : Net → ℕ → Green → List (List ℕ)
 green_record net node green = codes "green" ∷ [] ∷ node_name_at net node ∷ decimal green.phase ∷ decimal green.from ∷ decimal green.to ∷ [] ∷ []
 
--- the records of the greens of a node that begin before second `end`, out of the timelines of all nodes in their order
+-- the records of the greens that are told of a node up to second `end`, out of the timelines of all nodes in their order
 abbrev pub green_records : Net → List (List Green) → ℕ → ℕ → List (List (List ℕ))
-green_records net lines end node = map (green_record net node) (filter (λ green. nat_lt green.from end) (slice_index_or lines node []))
+green_records net lines end node = map (green_record net node) (told_line net lines end node)
 
 -- what stands where a link has no totals
 abbrev pub no_totals : LinkTotals
@@ -37,8 +38,8 @@ link_record_of net links link = link_record net link (slice_index_or links link 
 abbrev pub total_record : Totals → List (List ℕ)
 total_record totals = codes "total" ∷ [] ∷ [] ∷ decimal totals.entered ∷ decimal totals.left ∷ decimal totals.on ∷ decimal totals.delay ∷ []
 
--- the records of what the signals showed and the world counted: the greens that begin before a second, by node and time; the totals of
--- each link; and all totals
+-- the records of what the signals showed and the world counted: the greens that are told up to a second, by node and time; the totals
+-- of each link; and all totals
 abbrev pub shown_records : Net → List (List Green) → List LinkTotals → Totals → ℕ → List (List (List ℕ))
 shown_records net lines links totals end =
     flat_map (green_records net lines end) (range_with_len 0 (length net.node_names))

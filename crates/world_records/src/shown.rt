@@ -1,8 +1,11 @@
 //! The records of what the signals showed and the world counted.
-ghost use Rattle.std.specs.Prelude.{◌≡◌, ◌<◌, [], ◌∷◌, OnOk, filter, if◌then◌else◌, length, map, nat_lt};
+ghost use Rattle.std.specs.Prelude.{◌≡◌, ◌<◌, ℕ, [], ◌∷◌, All, OnOk, length, map};
 ghost use Rattle.std.specs.List.{flat_map, range_with_len};
+ghost use Rattle.control_flow.specs.Greens.{row_at};
 ghost use Rattle.net_simulator.specs.Sums as sums;
+ghost use Rattle.road_net.specs.Through.{is_through};
 ghost use Rattle.world_records.specs.Records.{green_record, green_records, link_record, link_record_of, shown_records, total_record};
+ghost use Rattle.world_records.specs.Told.{IsToldGreen, told_by, told_line, told_rows};
 ghost use Rattle.world_records.specs.Written.{Adds};
 
 use crate::digits::digits_of;
@@ -13,8 +16,9 @@ use net_simulator::{LinkTotals, Totals, end_of_run};
 use road_net::Network;
 use std::alloc::AllocError;
 
-/// Writes what lines show and what was counted: the greens that begin before the end of the run, by node and time, the
-/// totals of each link, and all totals. There are a line for each node and totals of each link. `Err`: out of memory.
+/// Writes what lines show and what was counted: the greens that are told of each line, by node and time, the totals of each
+/// link, and all totals. There are a line for each node and totals of each link. A report can tell these greens. `Err`: out
+/// of memory.
 ///
 /// docs/FORMATS.md, "Report".
 pub fn write_shown(
@@ -26,16 +30,18 @@ pub fn write_shown(
 ) -> Result<(), AllocError>
     requires lines { length lines.now ≡ length net.now.node_names }
     requires links { length links.now ≡ length net.now.link_names }
-    ensures { OnOk result (Adds out.old out.new
+    ensures records { OnOk result (Adds out.old out.new
         (shown_records net.now lines.now links.now totals (sums.end_of_run net.now))) }
+    ensures told { OnOk result ((node : ℕ) → node < length net.now.node_names
+        → All IsToldGreen (told_line net.now lines.now (sums.end_of_run net.now) node)) }
 {
     write_greens(net, lines, end_of_run(net), out)?;
     write_links(net, links, out)?;
     write_totals(totals, out)
 }
 
-/// Writes the records of the greens of each node's line that begin before second `end`, by node and time; a line for
-/// each node, by number.
+/// Writes the records of the greens that are told of each node's line, up to second `end`, by node and time; a line for each
+/// node, by number.
 fn write_greens(
     net: &Network,
     lines: &[Timeline],
@@ -43,8 +49,10 @@ fn write_greens(
     out: &mut Writer<Vec<u8>>,
 ) -> Result<(), AllocError>
     requires { length lines.now ≡ length net.now.node_names }
-    ensures { OnOk result (Adds out.old out.new
+    ensures records { OnOk result (Adds out.old out.new
         (flat_map (green_records net.now lines.now end) (range_with_len 0 (length net.now.node_names)))) }
+    ensures told { OnOk result ((node : ℕ) → node < length net.now.node_names
+        → All IsToldGreen (told_line net.now lines.now end node)) }
 {
     for node in 0..net.nodes() {
         write_greens_of(net, node, lines[node as usize].rows(), end, out)?;
@@ -52,7 +60,7 @@ fn write_greens(
     Ok(())
 }
 
-/// Writes the records of those greens of a node that begin before a second.
+/// Writes the records of those greens of a node that are told.
 fn write_greens_of(
     net: &Network,
     node: u32,
@@ -61,30 +69,51 @@ fn write_greens_of(
     out: &mut Writer<Vec<u8>>,
 ) -> Result<(), AllocError>
     requires { node < length net.now.node_names }
-    ensures { OnOk result (Adds out.old out.new
-        (map (green_record net.now node) (filter (λ green. nat_lt green.from end) greens.now))) }
+    ensures records { OnOk result (Adds out.old out.new
+        (map (green_record net.now node) (told_rows (is_through net.now node) end greens.now))) }
+    ensures told { OnOk result (All IsToldGreen (told_rows (is_through net.now node) end greens.now)) }
 {
+    let through = net.is_through(node);
+    let mut last = first_begin(greens);
     for green in greens {
-        write_green(net, node, *green, end, out)?;
+        let by = told_by(through, last, green);
+        if by >= end {
+            return Ok(());
+        }
+        write_green(net, node, *green, out)?;
+        last = green.to;
     }
     Ok(())
 }
 
-/// Writes the record of a green, if it begins before a second.
+/// The second that has to lie before the end of the run for a row to be told, after one that ends at `last`.
+fn told_by(through: bool, last: u32, green: &Green) -> u32
+    ensures { result ≡ told_by through last green.now }
+{
+    if through { last } else { green.from }
+}
+
+/// When the first of these rows begins; 0 where there is none.
+fn first_begin(greens: &[Green]) -> u32
+    ensures { result ≡ (row_at greens.now 0).from }
+{
+    match greens.first() {
+        Some(green) => green.from,
+        None => 0,
+    }
+}
+
+/// Writes the record of a green.
 fn write_green(
     net: &Network,
     node: u32,
     green: Green,
-    end: u32,
     out: &mut Writer<Vec<u8>>,
 ) -> Result<(), AllocError>
     requires { node < length net.now.node_names }
-    ensures { OnOk result (Adds out.old out.new
-        (if nat_lt green.from end then green_record net.now node green ∷ [] else [])) }
+    ensures records { OnOk result (Adds out.old out.new (green_record net.now node green ∷ [])) }
+    ensures told { IsToldGreen green }
 {
-    if green.from >= end {
-        return Ok(());
-    }
     let phase = digits_of(u64::from(green.phase));
     let from = digits_of(u64::from(green.from));
     let to = digits_of(u64::from(green.to));

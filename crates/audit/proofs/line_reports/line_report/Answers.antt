@@ -13,12 +13,12 @@ returns-clause-text c =
     IfOk-weaker c.finish.result _ (λ (text : Vec ℕ Global). text.items ≡ line_text c.args.net.now s)
     (λ text says. says (line_text c.args.net.now s)
     (report-parts c.args.net.now s c.start-out.result c.write_header.new.out c.write_shown.new.out
-    (subst (HasWritten c.start-out.result) c.new.ensures.items c.start-out.ensures) c.in_ok-write_header.ensures c.in_ok-write_shown.ensures))
+    (subst (HasWritten c.start-out.result) c.new.ensures.items c.start-out.ensures) c.in_ok-write_header.ensures c.in_ok-write_shown.ensures.records))
     c.finish.ensures
 
 pub returns-clause-clean : goal.returns-clause-clean
 returns-clause-clean c arriving few clean =
     let s : Sheet = record { lines = c.args.lines.now; links = c.args.links.now; totals = c.args.totals } in
     IfOk-weaker c.finish.result (λ (text : Vec ℕ Global). text.items ≡ line_text c.args.net.now s) (λ (text : Vec ℕ Global). IsCleanText c.args.net.now arriving text.items)
-    (λ text is. subst (IsCleanText c.args.net.now arriving) (sym is) (report-clean c.args.net.now c.law_of_network.ensures arriving few s c.requires clean))
+    (λ text is. subst (IsCleanText c.args.net.now arriving) (sym is) (report-clean c.args.net.now c.law_of_network.ensures arriving few s c.requires clean c.in_ok-write_shown.ensures.told))
     (returns-clause-text c)

@@ -14,5 +14,5 @@ returns c =
     (λ all says. says (c.args.text.items ++ records_text (outcome_records c.args.net.now c.args.run.now))
     (outcome-parts c.args.net.now c.args.run.now c.args.text.items c.as_slice.result.now c.as_slice-lines.result.now c.as_slice-links.result.now
     c.start-out.result c.write_plans.new.out c.write_shown.new.out c.as_slice.ensures c.as_slice-lines.ensures c.as_slice-links.ensures
-    (subst (HasWritten c.start-out.result) c.in_ok-reserve.ensures.items c.start-out.ensures) c.in_ok-write_plans.ensures c.in_ok-write_shown.ensures))
+    (subst (HasWritten c.start-out.result) c.in_ok-reserve.ensures.items c.start-out.ensures) c.in_ok-write_plans.ensures c.in_ok-write_shown.ensures.records))
     c.finish.ensures

@@ -1,7 +1,6 @@
-use Rattle.std.proofs.Common.{filter, map, nat_lt, take}
-use Rattle.world_records.specs.Records.{green_record}
-use Rattle.world_records.specs.Written.{Adds}
+use Rattle.world_records.proofs.ToldLaws.{IsToldTo}
 use Rattle.world_records.proofs.shown.write_greens_of.Given as goal
 
+-- the first rows are told, and their records written
 abbrev pub invariant-loop-green : goal.invariant-loop-green
-invariant-loop-green l = Adds l.fn.out l.out (map (green_record l.net l.node) (filter (λ green. nat_lt green.from l.end) (take l.green-index l.greens)))
+invariant-loop-green l = IsToldTo l.net l.node l.end l.greens l.green-index l.last l.fn.out l.out
