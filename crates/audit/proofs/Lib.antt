@@ -6,4 +6,5 @@ mod Reasons
 pub mod SheetReaderLaws
 pub mod SheetFieldLaws
 pub mod SheetTextLaws
+pub mod ToldGreens
 pub mod WrittenSheetLaws
