@@ -21,13 +21,14 @@ use Rattle.signal_safety.proofs.Lines.{safe}
 use Rattle.signal_safety.proofs.Rounds.{AllKeepEvery, all-keep-every, shows-every}
 use Rattle.audit.specs.SheetTexts.{HasShape}
 use Rattle.audit.specs.LineRuns.{sheet_of}
-use Rattle.actuated.specs.ActRuns.{IsActRun, ShowsSigns, first_line, cumulative_by, shown_in}
+use Rattle.actuated.specs.ActRuns.{IsActRun, KeepsWaits, ShowsSigns, first_line, cumulative_by, shown_in}
 use Rattle.actuated.specs.ActSteps.{act_rounds, act_step}
 use Rattle.actuated.specs.Rounds.{AreFirstLines, AreRenewed}
 use Rattle.actuated.specs.RunsSoFar.{AreNear, HavePlayed}
 use Rattle.audit.specs.declared.line_runs.LineRun.{LineRun}
 use Rattle.actuated.proofs.ActStepLaws.{act-rounds, begins-by, one-round, time-for}
 use Rattle.actuated.proofs.Acting.{more-acted, none-acted, same-before}
+use Rattle.actuated.proofs.ActWaits.{run-waits}
 use Rattle.actuated.proofs.LineLaws.{first-is-line, next-keeps}
 use Rattle.arrivals.specs.Amounts.{Amounts, AreArrivals, arriving_of}
 use Rattle.control_flow.specs.declared.greens.Sign.{Sign}
@@ -138,6 +139,7 @@ pub record HasEnded (net : Net) (arriving : ℕ → ℕ → ℕ) (run : LineRun)
   pub shape : HasShape net (sheet_of run)
   pub safe : IsSafe net (line_in run.timelines)
   pub signs : (is : IsActRun net arriving run) → ShowsSigns net is.made run
+  pub waits : (is : IsActRun net arriving run) → KeepsWaits net arriving is.made
   pub clean : IsClean net arriving (sheet_of run)
 
 pub ended : (net : Net) → IsNetwork net → (arriving : ℕ → ℕ → ℕ) (w : WorldState) (run : LineRun) (lines : List (List Green)) → run.timelines ≡ lines → HavePlayed net arriving (act_rounds net) lines w
@@ -149,5 +151,6 @@ ended net network arriving w run lines are acted links all =
       shape = ended-shape net network arriving w run a links all;
       safe = ended-safe net network arriving w run a links all;
       signs = shows-signs net network arriving run;
+      waits = λ is. run-waits net network arriving is.made is.by.acts;
       clean = ended-clean net network arriving w run a links all;
     }

@@ -14,6 +14,8 @@ use Rattle.net_simulator.specs.Sums.{end_of_run, link_totals, totals}
 use Rattle.net_simulator.specs.Worlds.{line_in}
 use Rattle.signal_safety.specs.Rounds.{line_before, shown_every}
 use Rattle.audit.specs.declared.line_runs.LineRun.{LineRun}
+use Rattle.waits.specs.Bounds.{actuated_bounds}
+use Rattle.waits.specs.Discharges.{AreWaitsWithin}
 use Rattle.actuated.specs.ActSteps.{act_rounds, act_step}
 use Rattle.actuated.specs.Calls.{act_line, calling}
 use Rattle.control_flow.specs.declared.greens.Sign.{Sign}
@@ -75,3 +77,7 @@ abbrev pub ShowsSigns : Net → (ℕ → ℕ → List Green) → LineRun → Typ
 ShowsSigns net made run =
     (second node : ℕ) → second < end_of_run net → node < length net.node_names
     → sign_at (line_in run.timelines node) second ≡ shown_in net made second node
+
+-- each queue of a phase that has a bound loses something within it
+abbrev pub KeepsWaits : Net → (ℕ → ℕ → ℕ) → (ℕ → ℕ → List Green) → Type 0
+KeepsWaits net arriving made = AreWaitsWithin net (actuated_bounds net) (cumulative_by net arriving made) (end_of_run net)

@@ -9,7 +9,7 @@ ghost use Rattle.signal_safety.specs.Safe.{IsSafe};
 ghost use Rattle.audit.specs.LineRuns.{sheet_of};
 ghost use Rattle.audit.specs.SheetTexts.{HasShape};
 ghost use Rattle.audit.specs.declared.line_runs.LineRun as spec;
-ghost use Rattle.actuated.specs.ActRuns.{IsActRun, ShowsSigns};
+ghost use Rattle.actuated.specs.ActRuns.{IsActRun, KeepsWaits, ShowsSigns};
 ghost use Rattle.actuated.specs.ActSteps as steps;
 ghost use Rattle.actuated.specs.RunsSoFar.{HavePlayed};
 
@@ -31,8 +31,8 @@ use std::alloc::{AllocError, Global};
 /// the world moves by the timelines up to the next one.
 ///
 /// All timelines are lawful, and the network is safe. The last timelines show the signs by which the world
-/// moved. The totals are what the world shows under the last timelines, and what entered has left or
-/// is on the links.
+/// moved, and each queue of a phase that has a bound loses something within it. The totals are what the world shows
+/// under the last timelines, and what entered has left or is on the links.
 ///
 /// `Err`: out of memory.
 ///
@@ -49,6 +49,8 @@ pub fn run_actuated(
     ensures safe { IfOk result (λ run. IsSafe net.now (line_in run.timelines)) }
     ensures signs { IfOk result (λ run. (is : IsActRun net.now (arriving_of arrivals.now) run)
         → ShowsSigns net.now is.made run) }
+    ensures waits { IfOk result (λ run. (is : IsActRun net.now (arriving_of arrivals.now) run)
+        → KeepsWaits net.now (arriving_of arrivals.now) is.made) }
     ensures clean { IfOk result (λ run. IsClean net.now (arriving_of arrivals.now) (sheet_of run)) }
     ensures whole { IfOk result (λ run. IsBalanced run.totals) }
 {

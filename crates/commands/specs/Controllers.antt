@@ -1,13 +1,15 @@
 -- What the commands write that run a network under other controllers than the planners, or under several.
 use Rattle.std.specs.Prelude.{◌≡◌, ℕ, ◌+◌, ◌-◌, ◌*◌, ◌/◌, ◌<◌, List, ◌++◌, Contains, codes, length, map}
 use Rattle.std.specs.List.{AllZip, concat, range_with_len}
-use Rattle.actuated.specs.ActRuns.{IsActRun, ShowsSigns}
+use Rattle.actuated.specs.ActRuns.{IsActRun, KeepsWaits, ShowsSigns}
 use Rattle.actuated.specs.Reports.{act_text}
 use Rattle.audit.specs.declared.line_runs.LineRun.{LineRun}
 use Rattle.net_parts.specs.Limits.{most_of_all}
 use Rattle.audit.specs.Audits.{AreLawful, IsClean, IsCleanText}
-use Rattle.net_simulator.specs.Shown.{all_shown}
+use Rattle.net_simulator.specs.Shown.{all_shown, cumulative_of_lines}
+use Rattle.net_simulator.specs.Sums.{end_of_run}
 use Rattle.control_flow.specs.declared.greens.Green.{Green}
+use Rattle.fixed_plans.specs.FixedBounds.{fixed_bounds}
 use Rattle.fixed_plans.specs.Lines.{fixed_line}
 use Rattle.fixed_plans.specs.declared.rows.FixedRow.{FixedRow}
 use Rattle.histories.specs.Histories.{turn_order}
@@ -20,16 +22,19 @@ use Rattle.scaled_arrivals.specs.Scaling.{IsScaled, scaled_whole}
 use Rattle.audit.specs.SheetTexts.{HasShape}
 use Rattle.audit.specs.declared.sheet.Sheet.{Sheet}
 use Rattle.signal_safety.specs.Safe.{IsSafe}
+use Rattle.waits.specs.Discharges.{AreWaitsWithin}
 use Rattle.commands.specs.Headline.{IsRunOf}
 use Rattle.commands.specs.Summary.{scale_line, totals_line}
 
 -- The run of a network under actuated control, where this enters each link in each second: all last lines are lawful, the network is
--- safe under them, and in each second of the run they show the signs by which the world moved.
+-- safe under them, and in each second of the run they show the signs by which the world moved; and each queue of a phase that has a
+-- bound loses something within it.
 pub record IsActuatedRun (net : Net) (arriving : ℕ → ℕ → ℕ) (record_of_run : LineRun) : Type 0 where
   pub run : IsActRun net arriving record_of_run
   pub lawful : AreLawful net record_of_run.timelines
   pub safe : IsSafe net (line_in record_of_run.timelines)
   pub signs : ShowsSigns net run.made record_of_run
+  pub waits : KeepsWaits net arriving run.made
 
 -- the bytes are the report of such a run, and an audit finds nothing in them
 pub record IsActuatedReport (net : Net) (arriving : ℕ → ℕ → ℕ) (bytes : List ℕ) : Type 0 where
@@ -65,13 +70,15 @@ abbrev pub fixed_timelines : Net → List FixedRow → List (List Green)
 fixed_timelines net rows = map (fixed_line net rows) (range_with_len 0 (length net.node_names))
 
 -- The bytes are the report of the timelines of a fixed plan and of what the world shows under them: they are lawful, the network is
--- safe under them, and an audit finds nothing in the report.
+-- safe under them, each queue of a phase that has a bound under the plan loses something within it, and an audit finds nothing in the
+-- report.
 pub record IsFixedReport (net : Net) (arriving : ℕ → ℕ → ℕ) (rows : List FixedRow) (bytes : List ℕ) : Type 0 where
   pub sheet : Sheet
   pub lines : sheet.lines ≡ fixed_timelines net rows
   pub shape : HasShape net sheet
   pub shows : IsClean net arriving sheet
   pub safe : IsSafe net (line_in sheet.lines)
+  pub waits : AreWaitsWithin net (fixed_bounds net rows) (cumulative_of_lines net arriving sheet.lines) (end_of_run net)
   pub report : bytes ≡ line_text net sheet
   pub clean : IsCleanText net arriving bytes
 

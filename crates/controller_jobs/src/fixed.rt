@@ -7,13 +7,16 @@ ghost use Rattle.command_words.specs.Calls.{Fixed};
 ghost use Rattle.commands.specs.Controllers.{IsFixedReport, fixed_timelines};
 ghost use Rattle.commands.specs.Ending.{Makes};
 ghost use Rattle.commands.specs.Outcome.{Outcome};
+ghost use Rattle.fixed_plans.specs.FixedBounds.{fixed_bounds};
 ghost use Rattle.fixed_plans.specs.Rows.{IsFixedPlan};
 ghost use Rattle.audit.specs.LineReports.{line_text};
 ghost use Rattle.audit.specs.LineRuns.{sheet_of, shown_sheet};
-ghost use Rattle.net_simulator.specs.Sums.{total_arrived};
+ghost use Rattle.net_simulator.specs.Shown.{cumulative_of_lines};
+ghost use Rattle.net_simulator.specs.Sums.{end_of_run, total_arrived};
 ghost use Rattle.net_simulator.specs.Worlds.{line_in};
 ghost use Rattle.audit.specs.SheetTexts.{HasShape};
 ghost use Rattle.signal_safety.specs.Safe.{IsSafe};
+ghost use Rattle.waits.specs.Discharges.{AreWaitsWithin};
 
 use arrivals::Arrivals;
 use audit::{LineRun, line_report, run_lines};
@@ -37,6 +40,8 @@ pub(crate) fn fixed_run(
     ensures shape { IfOk result (λ run. HasShape net.now (sheet_of run)) }
     ensures clean { IfOk result (λ run. IsClean net.now (arriving_of arrivals.now) (sheet_of run)) }
     ensures safe { IfOk result (λ run. IsSafe net.now (line_in run.timelines)) }
+    ensures waits { IfOk result (λ run. AreWaitsWithin net.now (fixed_bounds net.now plan.now)
+        (cumulative_of_lines net.now (arriving_of arrivals.now) run.timelines) (end_of_run net.now)) }
 {
     let lines = fixed_lines(alloc, net, plan)?;
     run_lines(alloc, net, arrivals, lines)

@@ -1,9 +1,11 @@
 //! The timelines of a fixed plan.
 ghost use Rattle.std.specs.Prelude.{◌≡◌, ◌+◌, ◌-◌, ◌%◌, ◌<◌, ◌≤◌, ◌++◌, ◌∷◌, [], ℕ, nat_lt, if◌then◌else◌, IfOk, OnOk, length, map, slice_index_or};
 ghost use Rattle.std.specs.List.{range_with_len};
+ghost use Rattle.fixed_plans.specs.FixedBounds.{fixed_bounds};
 ghost use Rattle.net_parts.specs.Limits.{most_seconds};
 ghost use Rattle.control_flow.specs.Greens.{IsLawful, end_of};
 ghost use Rattle.net_parts.specs.Outline.{plan_at};
+ghost use Rattle.net_simulator.specs.Shown.{cumulative_of_lines};
 ghost use Rattle.net_simulator.specs.Sums as sums;
 ghost use Rattle.net_simulator.specs.Worlds.{line_in};
 ghost use Rattle.phase_plan.specs.Phases.{IsPlan};
@@ -11,18 +13,20 @@ ghost use Rattle.fixed_plans.specs.Lines as spec;
 ghost use Rattle.fixed_plans.specs.Lines.{cycle_length, cycle_line, fixed_line, green_of, offset_of};
 ghost use Rattle.fixed_plans.specs.Rows.{IsFixedPlan};
 ghost use Rattle.fixed_plans.specs.Cycles.{IsCycle};
+ghost use Rattle.waits.specs.Discharges.{AreWaitsWithin};
 
 use crate::plan::FixedPlan;
 use crate::rows::FixedRow;
 use control_flow::greens::{Green, Timeline};
 use net_simulator::end_of_run;
 use phase_plan::PhasePlan;
-use road_net::Network;
+use road_net::{Network, law_of_network};
 use std::alloc::{AllocError, Global};
 
 /// The timeline of each node under a fixed plan, by node. Every green is followed by its yellow and its clear time,
 /// and then by the next green of the node's cycle. A cycle begins at the offset, and whole cycles before and after it;
-/// of the cycles before, the greens count that begin at second 0 or later. Each timeline ends after the run.
+/// of the cycles before, the greens count that begin at second 0 or later. Each timeline ends after the run. Where they
+/// are shown, each queue of a phase that has a bound under the plan loses something within it.
 ///
 /// The plan is one of the network. `Err`: out of memory.
 ///
@@ -39,7 +43,10 @@ pub fn fixed_lines(
         → IsLawful (plan_at net.now node) (line_in lines.items node)) }
     ensures end { IfOk result (λ lines. (node : ℕ) → node < length net.now.node_names
         → sums.end_of_run net.now < end_of (line_in lines.items node)) }
+    ensures waits { IfOk result (λ lines. (arriving : ℕ → ℕ → ℕ) → AreWaitsWithin net.now (fixed_bounds net.now plan.now)
+        (cumulative_of_lines net.now arriving lines.items) (sums.end_of_run net.now)) }
 {
+    law_of_network(net);
     let mut lines = Vec::new(alloc);
     for node in 0..net.nodes() {
         lines.push(node_line(alloc, net, plan.rows(), node)?)?;

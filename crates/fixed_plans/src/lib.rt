@@ -5,6 +5,7 @@
 mod cycles;
 mod faults;
 mod fields;
+mod fixed_waits;
 mod order;
 mod plan;
 mod reader;
@@ -13,6 +14,7 @@ mod texts;
 
 pub use cycles::fixed_lines;
 pub use faults::FixedFault;
+pub use fixed_waits::{law_of_cycles, law_of_fixed_waits};
 pub use plan::FixedPlan;
 pub use rows::FixedRow;
 pub use texts::read_fixed_plan;

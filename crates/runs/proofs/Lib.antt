@@ -10,6 +10,7 @@ pub mod SameParts
 pub mod Places
 pub mod PlanLaws
 pub mod Plannable
+pub mod Planning
 pub mod PromiseLaws
 pub mod PlanLists
 pub mod EndedRecords

@@ -18,6 +18,7 @@ use Rattle.runs.specs.Plans.{IsPlannedFrom, NamesVersions, NeverOlder}
 use Rattle.runs.specs.Runs.{IsRun, line_before}
 use Rattle.runs.specs.declared.records.RunRecord.{RunRecord}
 use Rattle.runs.proofs.PlanLaws.{all-least, all-named, all-planned, never-older}
+use Rattle.runs.proofs.Planning.{run-waits}
 
 module _ (net : Net) (network : IsNetwork net) (arriving : ℕ → ℕ → ℕ) (h : List ℕ) (lawful : IsLawful net h) (run : RunRecord) (is : IsRun net arriving h run) (keep : AllKeep net (line_before net is.made) net.run.rounds) where
   line-is : (node : ℕ) → node < length net.node_names → last_line run node ≡ line_before net is.made net.run.rounds node
@@ -37,4 +38,5 @@ module _ (net : Net) (network : IsNetwork net) (arriving : ℕ → ℕ → ℕ) 
     lawful = lawful-line;
     safe = safe net network (last_line run) lawful-line;
     signs = λ second node before below. ap (λ (l : List Green). sign_at l second) (line-is node below) ∙ shows net network (line_before net is.made) net.run.rounds keep net.run.rounds (omega arith) second node below (div_below second net.run.step net.run.rounds network.outline.run.step.0 before);
+    waits = run-waits net network arriving is.heard is.made is.by.commits;
   }

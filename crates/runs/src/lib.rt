@@ -4,10 +4,12 @@
 
 mod laws;
 mod network_actors;
+mod planned_waits;
 mod records;
 mod run_records;
 
 pub use laws::{law_of_one_run, law_of_runs};
 pub use network_actors::{Actors, actors_of};
+pub use planned_waits::{law_of_planned_lines, law_of_planned_waits};
 pub use records::RunRecord;
 pub use run_records::{EmptyRecord, empty_plans, empty_record, record_of};

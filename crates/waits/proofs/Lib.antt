@@ -1,11 +1,15 @@
 pub mod BoundLaws
 pub mod Recalled
+pub mod Recalling
+pub mod Called
 pub mod Emptying
 pub mod Intergreens
 pub mod Ring
 pub mod Rounds
+pub mod Seen
 pub mod Shown
 pub mod Soon
+pub mod Splices
 pub mod TableLaws
 pub mod Turns
 pub mod Waiting

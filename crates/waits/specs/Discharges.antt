@@ -1,6 +1,8 @@
 -- For how long a queue may wait until something leaves it.
-use Rattle.std.specs.Prelude.{◌≡◌, ℕ, ◌+◌, ◌-◌, ◌*◌, ◌<◌, ◌≤◌, nat_lt, min, not, if◌then◌else◌, IsTrue, List, Some, length}
+use Rattle.std.specs.Prelude.{◌≡◌, ℕ, ◌+◌, ◌-◌, ◌*◌, ◌<◌, ◌≤◌, nat_lt, max, min, if◌then◌else◌, IsTrue, List, Option, None, Some, length}
 use Rattle.std.specs.Prelude.{Result, Ok, Err}
+use Rattle.std.specs.List.{fold, range_with_len}
+use Rattle.std.specs.Option.{option_map_or}
 use Rattle.net_parts.specs.Numbers.{Net}
 use Rattle.net_parts.specs.Outline.{link_at, plan_at}
 use Rattle.phase_plan.specs.Phases.{is_unmarked_at, phase_at}
@@ -21,21 +23,36 @@ Discharges past l n m = (past n l).left < (past m l).left
 abbrev pub longest_wait : List Phase → (ℕ → ℕ) → ℕ → ℕ
 longest_wait plan intergreen k = longest_red plan intergreen k + (phase_at plan k).loss + 1
 
--- Within how many seconds each queue of phase k loses something, where the intergreens are within these. There is no such bound
--- where the phase is marked, so that the ring may leave it out, or where its least green is no longer than its start-up.
-abbrev pub wait_bound : List Phase → (ℕ → ℕ) → ℕ → Result ℕ NoBound
-wait_bound plan intergreen k =
-    if not (is_unmarked_at plan k) then Err Marked
-    else if nat_lt (phase_at plan k).loss (phase_at plan k).least then Ok (longest_wait plan intergreen k)
-    else Err ShortGreen
+-- the longest of the intergreens after the phases of a plan
+abbrev pub greatest_intergreen : List Phase → (ℕ → ℕ) → ℕ
+greatest_intergreen plan intergreen = fold (λ most k. max most (intergreen k)) 0 (range_with_len 0 (length plan))
+
+-- The longest time that a queue of phase k waits until something leaves it, where so many seconds may pass until a round begins from
+-- which on the signal stops at the phase in each turn: those seconds, an intergreen that is under way then, and the longest wait.
+abbrev pub recalled_wait : List Phase → (ℕ → ℕ) → ℕ → ℕ → ℕ
+recalled_wait plan intergreen until_recalled k = until_recalled + greatest_intergreen plan intergreen + longest_wait plan intergreen k
+
+-- so many seconds, where the least green of phase k is longer than its start-up: else its greens may be over before anything leaves
+abbrev pub green_bound : List Phase → ℕ → ℕ → Result ℕ NoBound
+green_bound plan k wait = if nat_lt (phase_at plan k).loss (phase_at plan k).least then Ok wait else Err ShortGreen
+
+-- Within how many seconds each queue of phase k loses something, where the intergreens are within these. A marked phase, which the ring
+-- may leave out, has such a bound only where in each of these cases a round begins, no more than so many seconds after the begin of a
+-- queue, from which on the signal stops at the phase: `until_recalled`, if any. A phase whose least green is no longer than its start-up
+-- has none.
+abbrev pub wait_bound : List Phase → (ℕ → ℕ) → Option ℕ → ℕ → Result ℕ NoBound
+wait_bound plan intergreen until_recalled k =
+    if is_unmarked_at plan k then green_bound plan k (longest_wait plan intergreen k)
+    else option_map_or (λ seconds. green_bound plan k (recalled_wait plan intergreen seconds k)) until_recalled (Err Marked)
 
 -- the longest intergreens of the nodes where no signal waits in all-red beyond `look` seconds from the end of a green
 abbrev pub intergreens_of : Net → ℕ → ℕ → ℕ → ℕ
 intergreens_of net look node = longest_intergreen (plan_at net node) look
 
--- within how many seconds each queue of phase k of a node loses something, where the intergreens of the nodes are within these
+-- within how many seconds each queue of phase k of a node loses something, whoever makes the lines, where the intergreens of the nodes
+-- are within these
 abbrev pub wait_bounds : Net → (ℕ → ℕ → ℕ) → ℕ → ℕ → Result ℕ NoBound
-wait_bounds net intergreens node k = wait_bound (plan_at net node) (intergreens node) k
+wait_bounds net intergreens node k = wait_bound (plan_at net node) (intergreens node) None k
 
 -- No queue waits for ever: in the first `end` seconds each queue loses something within the bound of its phase, `bound node k` for
 -- phase k of a node, where it has one.

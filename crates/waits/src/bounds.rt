@@ -1,10 +1,11 @@
 //! Within how many seconds each queue of a phase loses something, or why there is no such bound.
-ghost use Rattle.std.specs.Prelude.{◌≡◌, ◌++◌, ◌+◌, ◌-◌, ◌*◌, ◌<◌, ◌≤◌, IfOk, OnOk, length, max, sum_by};
+ghost use Rattle.std.specs.Prelude.{◌≡◌, ◌++◌, ◌+◌, ◌-◌, ◌*◌, ◌<◌, ◌≤◌, nat_lt, if◌then◌else◌, IfOk, IfSome, OnOk, Ok, Err, length, max, sum_by};
 ghost use Rattle.std.specs.List.{range_with_len};
 ghost use Rattle.net_parts.specs.Limits.{most_look};
 ghost use Rattle.net_parts.specs.Outline.{plan_at};
 ghost use Rattle.phase_plan.specs.Phases.{IsPhase};
 ghost use Rattle.waits.specs.Bounds as spec;
+ghost use Rattle.waits.specs.Bounds.{most_until};
 ghost use Rattle.waits.specs.Discharges as discharges;
 ghost use Rattle.waits.specs.Waits.{longest_span};
 ghost use Rattle.waits.specs.Waits as waits;
@@ -84,29 +85,82 @@ pub fn phase_bounds(net: &Network, node: u32, phase: u8) -> PhaseBounds
     PhaseBounds {
         node,
         phase,
-        planned: wait_bound(plan, net.run().look, phase),
-        actuated: wait_bound(plan, 0, phase),
+        planned: wait_bound(plan, net.run().look, until_recalled(net), phase),
+        actuated: wait_bound(plan, 0, Some(until_called(net)), phase),
     }
 }
 
+/// Within how many seconds of the begin of a queue a round begins in which its phase is recalled, if the network has `recall`.
+fn until_recalled(net: &Network) -> Option<u32>
+    ensures value { result ≡ spec.until_recalled net.now }
+    ensures bounds { IfSome result (λ seconds. seconds ≤ most_until) }
+{
+    let run = net.run();
+    match run.recall {
+        Some(recall) => Some(recall + run.step),
+        None => None,
+    }
+}
+
+/// The seconds of a round of actuated control.
+fn until_called(net: &Network) -> u32
+    ensures value { result ≡ spec.until_called net.now }
+    ensures bounds { result ≤ most_until }
+{
+    let run = net.run();
+    run.act_step.unwrap_or(run.step)
+}
+
 /// Within how many seconds each queue of a phase loses something, where the signal stays in all-red at most `look` seconds from the
-/// end of a green; else why there is no such bound.
+/// end of a green, and a marked phase is recalled by a round that begins within `until_recalled` seconds of the begin of a queue, if
+/// at all; else why there is no such bound.
 ///
 /// docs/RULES.md, "How long a queue can wait".
-pub fn wait_bound(plan: &PhasePlan, look: u32, phase: u8) -> Result<u32, NoBound>
+pub fn wait_bound(
+    plan: &PhasePlan,
+    look: u32,
+    until_recalled: Option<u32>,
+    phase: u8,
+) -> Result<u32, NoBound>
     requires look { look ≤ most_look }
+    requires until { IfSome until_recalled (λ seconds. seconds ≤ most_until) }
     requires phase { phase < length plan.now }
-    ensures value { result ≡ discharges.wait_bound plan.now (waits.longest_intergreen plan.now look) phase }
+    ensures value { result
+        ≡ discharges.wait_bound plan.now (waits.longest_intergreen plan.now look) until_recalled phase }
 {
     let times = plan.phase(phase);
-    if times.skip {
-        return Err(NoBound::Marked);
+    let longest = longest_red(plan, look, phase) + times.loss + 1;
+    if !times.skip {
+        return green_bound(times, longest);
     }
+    match until_recalled {
+        Some(seconds) => green_bound(times, seconds + greatest_intergreen(plan, look) + longest),
+        None => Err(NoBound::Marked),
+    }
+}
+
+/// So many seconds, where the least green of a phase is longer than its start-up.
+fn green_bound(times: &Phase, wait: u32) -> Result<u32, NoBound>
+    ensures { result ≡ if nat_lt times.now.loss times.now.least then Ok wait else Err NoBound.ShortGreen }
+{
     if times.loss < times.least {
-        Ok(longest_red(plan, look, phase) + times.loss + 1)
+        Ok(wait)
     } else {
         Err(NoBound::ShortGreen)
     }
+}
+
+/// The longest of the intergreens after the phases.
+fn greatest_intergreen(plan: &PhasePlan, look: u32) -> u32
+    requires { look ≤ most_look }
+    ensures value { result ≡ discharges.greatest_intergreen plan.now (waits.longest_intergreen plan.now look) }
+    ensures bounds { result ≤ 200 }
+{
+    let mut greatest: u32 = 0;
+    for phase in 0..plan.count() {
+        greatest = greatest.max(longest_intergreen(plan.phase(phase), look));
+    }
+    greatest
 }
 
 /// The longest time that a phase is without green.

@@ -28,6 +28,11 @@ returns-clause-signs c =
     (ended c.args.net.now c.law_of_network.ensures (arriving_of c.args.arrivals.now) c.play_rounds.new.world (record { timelines = c.from_vec.result; links = c.from_vec-2.result; totals = c.totals.result }) c.play_rounds.new.lines.items
     c.from_vec.ensures c.in_ok-play_rounds.ensures (c.from_vec-2.ensures ∙ c.in_ok-links.ensures) c.totals.ensures.value).signs
 
+pub returns-clause-waits : goal.returns-clause-waits
+returns-clause-waits c =
+    (ended c.args.net.now c.law_of_network.ensures (arriving_of c.args.arrivals.now) c.play_rounds.new.world (record { timelines = c.from_vec.result; links = c.from_vec-2.result; totals = c.totals.result }) c.play_rounds.new.lines.items
+    c.from_vec.ensures c.in_ok-play_rounds.ensures (c.from_vec-2.ensures ∙ c.in_ok-links.ensures) c.totals.ensures.value).waits
+
 pub returns-clause-clean : goal.returns-clause-clean
 returns-clause-clean c =
     (ended c.args.net.now c.law_of_network.ensures (arriving_of c.args.arrivals.now) c.play_rounds.new.world (record { timelines = c.from_vec.result; links = c.from_vec-2.result; totals = c.totals.result }) c.play_rounds.new.lines.items

@@ -12,6 +12,7 @@ returns c = record {
   shape = c.in_ok-run.ensures.shape;
   shows = c.in_ok-run.ensures.clean;
   safe = c.in_ok-run.ensures.safe;
+  waits = c.in_ok-run.ensures.waits;
   report = c.in_ok-text.ensures.text;
   clean = c.in_ok-text.ensures.clean (arriving_of c.args.arrivals.now) (few-of c.args.net.now c.law_of_network.ensures c.args.arrivals.now c.requires.arrivals) c.in_ok-run.ensures.clean;
 }

@@ -1,5 +1,6 @@
 use Rattle.std.proofs.Common.{ap, ◌∙◌, arith}
 use Rattle.fixed_plans.specs.Lines.{fixed_line}
+use Rattle.fixed_plans.proofs.FixedWaits.{lines-wait}
 use Rattle.fixed_plans.proofs.LineLaws.{line-at, lines-more, lines-push}
 use Rattle.fixed_plans.proofs.cycles.fixed_lines.Goals as goal
 
@@ -18,3 +19,7 @@ returns-clause-lawful c node below =
 pub returns-clause-end : goal.returns-clause-end
 returns-clause-end c node below =
     (line-at c.args.net.now (fixed_line c.args.net.now c.args.plan.now) c.loop-node.node c.loop-node.lines.items c.loop-node.invariant.0 c.loop-node.invariant.1 node (omega (arith, below, c.loop-node-test.false, c.nodes-node-end.ensures.value))).end
+
+pub returns-clause-waits : goal.returns-clause-waits
+returns-clause-waits c =
+    lines-wait c.args.net.now c.law_of_network.ensures c.args.plan.now c.requires c.loop-node.node (omega (arith, c.loop-node-test.false, c.nodes-node-end.ensures.value)) c.loop-node.lines.items c.loop-node.invariant.0 c.loop-node.invariant.1

@@ -1,5 +1,5 @@
-use Rattle.run_waits.proofs.Acting.{run-empties, run-waits}
-use Rattle.run_waits.proofs.actuated_waits.law_of_actuated_waits.Goals as goal
+use Rattle.runs.proofs.Planning.{run-empties, run-waits}
+use Rattle.runs.proofs.planned_waits.law_of_planned_waits.Goals as goal
 
 pub returns-clause-waits : goal.returns-clause-waits
 returns-clause-waits c = run-waits

@@ -10,7 +10,7 @@ ghost use Rattle.net_simulator.specs.Flow.{cumulative_under};
 ghost use Rattle.net_simulator.specs.Sums.{end_of_run};
 ghost use Rattle.net_simulator.specs.Worlds.{signs_by};
 ghost use Rattle.road_net.specs.Network.{IsNetwork};
-ghost use Rattle.run_waits.specs.FixedBounds.{fixed_bounds};
+ghost use Rattle.fixed_plans.specs.FixedBounds.{fixed_bounds};
 ghost use Rattle.waits.specs.Discharges.{AreWaitsWithin};
 ghost use Rattle.waits.specs.Waits.{IsGreenBy};
 

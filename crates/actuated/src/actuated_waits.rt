@@ -1,6 +1,6 @@
 //! Waits in runs under actuated control.
 ghost use Rattle.std.specs.Prelude.{ℕ, List};
-ghost use Rattle.actuated.specs.ActRuns.{AllAct, first_line, cumulative_by};
+ghost use Rattle.actuated.specs.ActRuns.{AllAct, KeepsWaits, first_line, cumulative_by};
 ghost use Rattle.actuated.specs.ActSteps.{act_rounds};
 ghost use Rattle.control_flow.specs.declared.greens.Green.{Green};
 ghost use Rattle.control_flow.specs.declared.greens.Sign.{Sign};
@@ -9,8 +9,7 @@ ghost use Rattle.net_simulator.specs.Flow.{Cumulative, cumulative_under};
 ghost use Rattle.net_simulator.specs.Sums.{end_of_run};
 ghost use Rattle.road_net.specs.Network.{IsNetwork};
 ghost use Rattle.signal_safety.specs.Rounds.{line_before};
-ghost use Rattle.waits.specs.Bounds.{actuated_bounds};
-ghost use Rattle.waits.specs.Discharges.{AreEmptied, AreWaitsWithin, AreWholeLines, intergreens_of};
+ghost use Rattle.waits.specs.Discharges.{AreEmptied, AreWholeLines, intergreens_of};
 
 /// The last timelines under actuated control are lawful and show all of the run, and their intergreens are yellow and all-red
 /// alone, in whatever world the nodes sense.
@@ -30,7 +29,7 @@ pub fn law_of_actuated_lines()
 pub fn law_of_actuated_waits()
     ensures waits { (net : Net) → IsNetwork net → (arriving : ℕ → ℕ → ℕ) (made : ℕ → ℕ → List Green)
         → AllAct net (cumulative_under net arriving) made (act_rounds net)
-        → AreWaitsWithin net (actuated_bounds net) (cumulative_by net arriving made) (end_of_run net) }
+        → KeepsWaits net arriving made }
     ensures empties { (net : Net) → IsNetwork net → (arriving : ℕ → ℕ → ℕ) (made : ℕ → ℕ → List Green)
         → AllAct net (cumulative_under net arriving) made (act_rounds net)
         → AreEmptied net (intergreens_of net 0) (cumulative_by net arriving made) (end_of_run net) }

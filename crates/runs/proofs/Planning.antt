@@ -1,9 +1,13 @@
 -- Each round of a run continues its nodes' lines within intergreens.
-use Rattle.std.proofs.Common.{◌≡◌, ℕ, zero, suc, ◌+◌, ◌*◌, ◌<◌, ◌≤◌, max, Bool, List, All, Option, Some, None, length, refl, sym, ap, subst, ◌∙◌, inl, inr, arith, suc-mul}
-use Rattle.std.proofs.lemmas.Bool.{cases_lt}
+use Rattle.std.proofs.Common.{◌≡◌, ℕ, zero, suc, ◌+◌, ◌*◌, ◌<◌, ◌≤◌, ◌==◌, max, leb, Bool, true, List, All, Contains, Option, Some, None, length, map, unwrap_or, refl, sym, ap, subst, ◌∙◌, inl, inr, arith, suc-mul, eqb-true}
+use Rattle.std.specs.Option.{option_map}
+use Rattle.std.proofs.lemmas.Bool.{cases_lt, le-leb}
 use Rattle.std.proofs.lemmas.List.{get_or_past, length-map}
 use Rattle.std.proofs.lemmas.Nat.{div_below, mul-le}
+use Rattle.std.proofs.lemmas.Option.{none-some, same_Some}
+use Rattle.foundation.proofs.PositionLaws.{list_any-at}
 use Rattle.board_model.specs.declared.boards.Heard.{Heard}
+use Rattle.clusters.specs.Inflow.{no_sense, sense_of}
 use Rattle.clusters.specs.Sound.{ArePlannable, cluster_lists, clusters_of}
 use Rattle.control_flow.specs.Greens.{IsLawful, end_of, row_at}
 use Rattle.control_flow.specs.Recalls.{recalled}
@@ -20,13 +24,15 @@ use Rattle.intersection_actor.proofs.RecallLaws.{head-round, lawful-round, lengt
 use Rattle.intersection_actor.proofs.ServedLaws.{greens-by, schedule-made}
 use Rattle.net_parts.specs.Numbers.{Net}
 use Rattle.net_simulator.specs.Flow.{Cumulative, cumulative_under}
+use Rattle.net_simulator.specs.Senses.{link_sense}
 use Rattle.net_simulator.specs.Sums.{end_of_run}
 use Rattle.net_simulator.specs.Worlds.{signs_by}
 use Rattle.net_simulator.proofs.AtNodes.{past-at-nodes}
-use Rattle.net_parts.specs.Outline.{plan_at}
+use Rattle.net_parts.specs.Outline.{link_at, phase_links_at, plan_at}
 use Rattle.phase_plan.specs.Phases.{IsPlan, is_unmarked_at, no_phase}
 use Rattle.phase_plan.specs.declared.Phase.{Phase}
-use Rattle.road_net.specs.Network.{IsNetwork}
+use Rattle.road_net.specs.Network.{IsNetwork, entry_links}
+use Rattle.road_net.specs.declared.senses.LinkSense.{LinkSense}
 use Rattle.road_net.specs.declared.senses.Sensed.{Sensed}
 use Rattle.schedule_meaning.specs.Instances.{IsInstance, Problem, counts_of}
 use Rattle.schedule_meaning.specs.declared.planners.Answer.{Answer}
@@ -40,11 +46,14 @@ use Rattle.switch_rules.specs.declared.Served.{Served}
 use Rattle.runs.specs.Runs.{AllCommit, line_before, cumulative_by, sensed_in, shown_by}
 use Rattle.runs.proofs.Plannable.{plannable, window-count}
 use Rattle.runs.proofs.Keep.{all-keep}
-use Rattle.waits.specs.Discharges.{AreEmptied, AreWaitsWithin, AreWholeLines, intergreens_of, wait_bounds}
-use Rattle.waits.proofs.BoundLaws.{empties, waits-within}
+use Rattle.waits.specs.Bounds.{planned_bounds, until_recalled}
+use Rattle.waits.specs.Discharges.{AreEmptied, AreWaitsWithin, AreWholeLines, Discharges, intergreens_of, recalled_wait, wait_bounds}
+use Rattle.waits.proofs.BoundLaws.{bound-is, empties, has-bound, node-inside, waits-within}
+use Rattle.waits.proofs.Recalling.{HasStood, RecallRounds, freed, lawful-fewer, recalled-waits}
+use Rattle.waits.proofs.Seen.{entry-of, found-of}
 use Rattle.waits.specs.Rounds.{AreRounds, IsRound}
 use Rattle.waits.specs.Waits.{BeginSoon, AreIntergreensWithin, longest_intergreen}
-use Rattle.run_waits.proofs.Splices.{splice-begins}
+use Rattle.waits.proofs.Splices.{splice-begins}
 use Rattle.waits.proofs.Intergreens.{intergreens-same, line-intergreens, turned-intergreens}
 use Rattle.waits.proofs.Rounds.{kept}
 use Rattle.waits.proofs.Soon.{next-soon}
@@ -117,15 +126,24 @@ module _ (net : Net) (network : IsNetwork net) (node : ℕ) (below : node < leng
     servings : AreServings phases c.head (phases_of c.answer) c.served
     servings = next-servings phases (cluster_lists c.window.lists) phases-plan each ready.clusters (phases_of c.answer) (counts_of (cluster_lists c.window.lists)) c.head c.served served-next
 
-    next : IsNext (plan_at net node) c.head c.next
-    next =
+    own : IsNext phases c.head c.next
+    own =
         let greens = greens-by phases (cluster_lists c.window.lists) phases-plan each ready.clusters (sensed.now + net.run.look) (window-soon net node c.head sensed heard c.platoons c.window is.problem.expected is.problem.taken)
         (phases_of c.answer) (counts_of (cluster_lists c.window.lists)) c.head c.served phases-head.is (omega (arith, look, early)) served-next in
-        let own : IsNext phases c.head c.next = subst (IsNext phases c.head) (sym is.next) (next-line phases c.head c.answer c.served (sensed.now + net.run.look) phases-plan phases-head (omega (arith, look, early)) servings greens) in
-        record { line = record { lawful = lawful-round net node sensed c.next own.line.lawful; begins = own.line.begins }; goes = own.goes }
+        subst (IsNext phases c.head) (sym is.next) (next-line phases c.head c.answer c.served (sensed.now + net.run.look) phases-plan phases-head (omega (arith, look, early)) servings greens)
+
+    pub next : IsNext (plan_at net node) c.head c.next
+    next = record { line = record { lawful = lawful-round net node sensed c.next own.line.lawful; begins = own.line.begins }; goes = own.goes }
+
+    -- where a phase is recalled they are lawful with it recalled
+    pub next-free : (recall k : ℕ) → net.run.recall ≡ Some recall → is_recalled net node sensed recall k ≡ true → IsLawful (freed (plan_at net node) k) c.next
+    next-free recall k has asked =
+        let recalls : ℕ → Bool = is_recalled net node sensed recall in
+        lawful-fewer (plan_at net node) (λ j. j == k) recalls (λ j same. subst (λ (n : ℕ). recalls n ≡ true) (sym (eqb-true j k same)) asked) c.next
+        (subst (λ (o : Option ℕ). IsLawful (plan_by net node sensed o) c.next) has own.line.lawful)
 
     -- new greens begin within the look ahead, or as early as they can
-    intergreens : AreIntergreensWithin (longest_intergreen (plan_at net node) net.run.look) c.next
+    pub intergreens : AreIntergreensWithin (longest_intergreen (plan_at net node) net.run.look) c.next
     intergreens =
         let soon = next-soon phases (cluster_lists c.window.lists) (sensed.now + net.run.look) (window-soon net node c.head sensed heard c.platoons c.window is.problem.expected is.problem.taken)
         (phases_of c.answer) (counts_of (cluster_lists c.window.lists)) c.head c.served served-next in
@@ -141,8 +159,21 @@ module _ (net : Net) (network : IsNetwork net) (node : ℕ) (below : node < leng
         let continues = continued (plan_at net node) old sensed.now c.head c.next plan line.lawful is.problem.at next.line.lawful next.goes in
         omega (arith, after, continues.end, ap end_of is.line)
 
-    pub goes-on : IsRound (plan_at net node) (longest_intergreen (plan_at net node) net.run.look) sensed.now old c.line
+    abbrev pub goes-on : IsRound (plan_at net node) (longest_intergreen (plan_at net node) net.run.look) sensed.now old c.line
     goes-on = record { head = c.head; next = c.next; at = is.problem.at; goes = next.goes; lawful = next.line.lawful; intergreens = intergreens; line = is.line }
+
+-- what is sensed of a link at a node is what is seen of it
+seen-of : (net : Net) (past : ℕ → ℕ → Cumulative) (n : ℕ) (links : List ℕ) (l : ℕ) → Contains links l → (let s : Sensed = record { now = n; links = map (link_sense net past n) links } in sense_of s l) ≡ link_sense net past n l
+unfolding sense_of
+seen-of net past n links l contained = ap (λ (o : Option LinkSense). unwrap_or o no_sense) (found-of net past n links l contained)
+
+-- within how many seconds a network recalls
+recall-of : (net : Net) (seconds : ℕ) → until_recalled net ≡ Some seconds → (recall : ℕ) × (net.run.recall ≡ Some recall) × (recall + net.run.step ≡ seconds)
+recall-of net seconds e = by net.run.recall e
+  where
+    by : (o : Option ℕ) → option_map (λ recall. recall + net.run.step) o ≡ Some seconds → (recall : ℕ) × (o ≡ Some recall) × (recall + net.run.step ≡ seconds)
+    by None is = absurd (none-some seconds is)
+    by (Some recall) is = (recall, refl, same_Some (recall + net.run.step) seconds is)
 
 -- the rounds of a run
 module _ (net : Net) (network : IsNetwork net) (arriving : ℕ → ℕ → ℕ) (heard : ℕ → ℕ → List Heard) (made : ℕ → ℕ → Commitment) (commits : AllCommit net arriving heard made net.run.rounds) (node : ℕ) (below : node < length net.node_names) where
@@ -186,6 +217,38 @@ module _ (net : Net) (network : IsNetwork net) (arriving : ℕ → ℕ → ℕ) 
           let late = ends-late net network node below r (line_before net made r node) (sensed_in net arriving made r node) (heard r node) (made r node) (early r (omega (arith, few))) (line-is r (omega (arith, few))) (commits r node (omega (arith, few)) below).commit in
           omega (arith, late, suc-mul r net.run.step, network.outline.run.within)
 
+  -- a link at the node whose phase is recalled where its queue has stood for long
+  module _ (recall : ℕ) (has : net.run.recall ≡ Some recall) (l : ℕ) (inside : l < length net.link_names) (ends : (link_at net l).to ≡ Some node) where
+    abbrev past-before : ℕ → ℕ → ℕ → Cumulative
+    past-before r = cumulative_by net arriving made (r * net.run.step)
+
+    asked : (r : ℕ) → HasStood net (past-before r) (r * net.run.step) recall l → is_recalled net node (sensed_in net arriving made r node) recall (link_at net l).phase ≡ true
+    asked r stood =
+        let sensed = sensed_in net arriving made r node in
+        let at = (network.served.entries l node inside ends).1 in
+        let seen : sense_of sensed l ≡ link_sense net (past-before r) (r * net.run.step) l = seen-of net (past-before r) (r * net.run.step) (entry_links net node) l (entry-of net network l node inside ends) in
+        let test : ℕ → Bool = λ k. leb recall (sense_of sensed k).stood in
+        list_any-at test (phase_links_at net node (link_at net l).phase) at.0 l at.1 (ap test at.2 ∙ le-leb recall (sense_of sensed l).stood (omega (arith, stood.long, ap (λ (s : LinkSense). s.stood) seen)))
+
+    pub recall-rounds : RecallRounds net arriving (shown_by net made) (line_before net made) (longest_intergreen (plan_at net node) net.run.look) net.run.rounds net.run.step recall l node
+    recall-rounds = record {
+      some = network.outline.run.step.0;
+      shows = λ r x n few soon at. shows net network (line_before net made) net.run.rounds (all-keep net network arriving heard made net.run.rounds (omega arith) commits) r few x n at (div_below x net.run.step r network.outline.run.step.0 soon);
+      lawful = first-line.lawful;
+      intergreens = rounds-are.intergreens;
+      begins = begins-first;
+      later = λ r less.
+          let late = ends-late net network node below r (line_before net made r node) (sensed_in net arriving made r node) (heard r node) (made r node) (early r less) (line-is r (omega (arith, less))) (commits r node less below).commit in
+          omega (arith, late, suc-mul r net.run.step, network.outline.run.within);
+      each = λ r less.
+          let commit = (commits r node less below).commit in
+          let line = line-is r (omega (arith, less)) in
+          record {
+            one = goes-on net network node below r (line_before net made r node) (sensed_in net arriving made r node) (heard r node) (made r node) (early r less) line commit;
+            freely = λ stood. next-free net network node below r (line_before net made r node) (sensed_in net arriving made r node) (heard r node) (made r node) (early r less) line commit recall (link_at net l).phase has (asked r stood);
+          };
+    }
+
 -- the last lines cover the run, and it moved by them
 module _ (net : Net) (network : IsNetwork net) (arriving : ℕ → ℕ → ℕ) (heard : ℕ → ℕ → List Heard) (made : ℕ → ℕ → Commitment) (commits : AllCommit net arriving heard made net.run.rounds) where
   pub covers : AreWholeLines net (intergreens_of net net.run.look) (end_of_run net) (line_before net made net.run.rounds)
@@ -202,9 +265,25 @@ module _ (net : Net) (network : IsNetwork net) (arriving : ℕ → ℕ → ℕ) 
   same-past = past-at-nodes net network arriving (signs_by (line_before net made net.run.rounds)) (shown_by net made) (end_of_run net)
       (λ x n less inside. shows net network (line_before net made) net.run.rounds (all-keep net network arriving heard made net.run.rounds (omega arith) commits) net.run.rounds (omega arith) x n inside (div_below x net.run.step net.run.rounds network.outline.run.step.0 less))
 
-  pub run-waits : AreWaitsWithin net (wait_bounds net (intergreens_of net net.run.look)) (cumulative_by net arriving made (end_of_run net)) (end_of_run net)
-  run-waits = subst (λ (past : ℕ → ℕ → Cumulative). AreWaitsWithin net (wait_bounds net (intergreens_of net net.run.look)) past (end_of_run net)) same-past
+  unmarked-waits : AreWaitsWithin net (wait_bounds net (intergreens_of net net.run.look)) (cumulative_by net arriving made (end_of_run net)) (end_of_run net)
+  unmarked-waits = subst (λ (past : ℕ → ℕ → Cumulative). AreWaitsWithin net (wait_bounds net (intergreens_of net net.run.look)) past (end_of_run net)) same-past
       (waits-within net network arriving (line_before net made net.run.rounds) (intergreens_of net net.run.look) (end_of_run net) covers)
+
+  -- and marked phases where they are recalled
+  pub run-waits : AreWaitsWithin net (planned_bounds net) (cumulative_by net arriving made (end_of_run net)) (end_of_run net)
+  run-waits l node wait n inside ends bound room stands =
+      let plan = plan_at net node in
+      let intergreen = longest_intergreen plan net.run.look in
+      elim (has-bound plan intergreen (until_recalled net) (link_at net l).phase wait bound) [
+        | inl has ↦ unmarked-waits l node wait n inside ends (bound-is plan intergreen (link_at net l).phase wait has) room stands
+        | inr has ↦
+            let (recall, some, until) = recall-of net has.seconds has.until in
+            let most : recalled_wait plan intergreen (recall + net.run.step) (link_at net l).phase ≡ wait = ap (λ (s : ℕ). recalled_wait plan intergreen s (link_at net l).phase) until ∙ has.is in
+            let below = node-inside net network l node inside ends in
+            subst (λ (w : ℕ). Discharges (cumulative_by net arriving made (end_of_run net)) l n (n + w)) most
+            (recalled-waits net network arriving (shown_by net made) (line_before net made) intergreen net.run.rounds net.run.step recall l node inside ends (recall-rounds net network arriving heard made commits node below recall some l inside ends) has.long n (end_of_run net)
+            (omega (arith, room, most)) (omega arith) stands)
+      ]
 
   pub run-empties : AreEmptied net (intergreens_of net net.run.look) (cumulative_by net arriving made (end_of_run net)) (end_of_run net)
   run-empties = subst (λ (past : ℕ → ℕ → Cumulative). AreEmptied net (intergreens_of net net.run.look) past (end_of_run net)) same-past

@@ -1,7 +1,9 @@
 -- Under a fixed plan a queue of a phase with a row discharges within a length of the cycle and the start-up of the green.
-use Rattle.std.proofs.Common.{◌≡◌, ℕ, suc, ◌+◌, ◌<◌, ◌≤◌, Bool, true, false, cond, eqb, ltb, List, [], ◌∷◌, length, Option, Some, None, Ok, Err, find, refl, sym, ap, ◌∙◌, inl, inr, arith, eqb-true}
+use Rattle.std.proofs.Common.{◌≡◌, ℕ, suc, ◌+◌, ◌<◌, ◌≤◌, Bool, true, false, cond, eqb, ltb, List, [], ◌∷◌, length, get_or, map, Option, Some, None, Ok, Err, find, refl, sym, ap, subst, ◌∙◌, inl, inr, arith, eqb-true}
+use Rattle.std.specs.List.{range_with_len}
 use Rattle.std.proofs.lemmas.Bool.{cases_Bool, ltb-true}
 use Rattle.std.proofs.lemmas.List.Elements.{All-get_or}
+use Rattle.std.proofs.lemmas.List.FromFn.{get_or-map-range_with_len}
 use Rattle.std.proofs.lemmas.Option.{none-some, same_Some, slice_get-get_or}
 use Rattle.foundation.proofs.ResultLaws.{same_Ok}
 use Rattle.control_flow.specs.Greens.{IsInOrder, IsLawful, no_green, row_after}
@@ -14,17 +16,19 @@ use Rattle.fixed_plans.specs.Lines.{cycle_length, fixed_line, green_from, green_
 use Rattle.fixed_plans.specs.Rows.{IsFixedPlan}
 use Rattle.fixed_plans.specs.declared.rows.FixedRow.{FixedRow}
 use Rattle.fixed_plans.proofs.CycleLaws.{row_in}
-use Rattle.fixed_plans.proofs.LineLaws.{own-cycle}
+use Rattle.fixed_plans.proofs.LineLaws.{IsLineOf, own-cycle}
 use Rattle.net_parts.specs.Numbers.{Net, no_link}
 use Rattle.net_parts.specs.Outline.{IsLink, link_at, plan_at}
 use Rattle.net_simulator.specs.Flow.{Cumulative, cumulative_under, queue}
+use Rattle.net_simulator.specs.Shown.{cumulative_of_lines}
 use Rattle.net_simulator.specs.Sums.{end_of_run}
-use Rattle.net_simulator.specs.Worlds.{signs_by}
+use Rattle.net_simulator.specs.Worlds.{line_in, signs_by}
+use Rattle.net_simulator.proofs.AtNodes.{past-at-nodes}
 use Rattle.phase_plan.specs.Phases.{IsPlan, phase_at}
 use Rattle.phase_plan.specs.declared.Phase.{Phase}
 use Rattle.road_net.specs.Network.{IsNetwork}
-use Rattle.run_waits.specs.FixedBounds.{cycle_bound, fixed_bounds, row_bound}
-use Rattle.run_waits.proofs.Cycles.{BeginsBy, IsPlaced, comes, place-of}
+use Rattle.fixed_plans.specs.FixedBounds.{cycle_bound, fixed_bounds, row_bound}
+use Rattle.fixed_plans.proofs.CycleGreens.{BeginsBy, IsPlaced, comes, place-of}
 use Rattle.signal_safety.proofs.Lines.{plan-is}
 use Rattle.waits.specs.Discharges.{AreWaitsWithin}
 use Rattle.waits.specs.declared.bounds.NoBound.TheVariants.{ShortGreen}
@@ -113,3 +117,18 @@ module _ (net : Net) (network : IsNetwork net) (rows : List FixedRow) (is : IsFi
       let goes = goes-by net arriving seen l inside link.travel.0 link.sat.0 node ends n x by.at (omega (arith, by.after)) shown (omega arith) early in
       let later = left-later net arriving seen l inside (x + 1) (n + wait) (omega (arith, by.before, has.is)) in
       omega (arith, goes, later, ap (λ (q : Cumulative). q.left) (in-past net arriving seen l inside end n (omega (arith, room))), ap (λ (q : Cumulative). q.left) (in-past net arriving seen l inside end (n + wait) room))
+
+-- for the list of the timelines
+module _ (net : Net) (network : IsNetwork net) (rows : List FixedRow) (is : IsFixedPlan net rows) (nodes : ℕ) (whole : length net.node_names ≤ nodes)
+    (lines : List (List Green)) (are : lines ≡ map (fixed_line net rows) (range_with_len 0 nodes)) (of : (node : ℕ) → node < nodes → IsLineOf net node (fixed_line net rows node)) (arriving : ℕ → ℕ → ℕ) where
+  line-is : (node : ℕ) → node < length net.node_names → line_in lines node ≡ fixed_line net rows node
+  line-is node below =
+      ap (λ (all : List (List Green)). get_or all node []) are
+      ∙ get_or-map-range_with_len (fixed_line net rows) 0 nodes node node [] (omega (arith, below, whole)) (omega arith)
+
+  same-past : cumulative_under net arriving (signs_by (fixed_line net rows)) (end_of_run net) ≡ cumulative_of_lines net arriving lines
+  same-past = past-at-nodes net network arriving (signs_by (fixed_line net rows)) (signs_by (line_in lines)) (end_of_run net) (λ x n less below. ap (λ (line : List Green). sign_at line x) (sym (line-is n below)))
+
+  pub lines-wait : AreWaitsWithin net (fixed_bounds net rows) (cumulative_of_lines net arriving lines) (end_of_run net)
+  lines-wait = subst (λ (past : ℕ → ℕ → Cumulative). AreWaitsWithin net (fixed_bounds net rows) past (end_of_run net)) same-past
+      (fixed-waits net network rows is arriving (λ node below. (of node (omega (arith, below, whole))).lawful))

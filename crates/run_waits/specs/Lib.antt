@@ -1,2 +1,0 @@
-pub mod FixedBounds
-pub use Rattle.waits.specs.Discharges
