@@ -22,12 +22,15 @@ use Rattle.round_states.specs.declared.states.LinkBoard.{LinkBoard}
 use Rattle.round_states.specs.declared.states.RoundState.{RoundState}
 use Rattle.runs.proofs.Keep.{keeps}
 use Rattle.runs.proofs.PlanLaws.{used-links}
+use Rattle.runs.proofs.Planning.{goes-on as continues}
 use Rattle.runs.specs.Runs.{told_in}
 use Rattle.schedule_meaning.proofs.Choosing.{best-least}
 use Rattle.schedule_meaning.specs.Best.{IsLeast}
 use Rattle.signal_safety.proofs.Lines.{safe}
 use Rattle.signal_safety.proofs.Rounds.{KeepsLine}
 use Rattle.net_parts.specs.Outline.{plan_at}
+use Rattle.waits.specs.Discharges.{intergreens_of}
+use Rattle.waits.specs.Rounds.{IsRound}
 use Rattle.round_decisions.specs.Decisions.{board_after, has_told, heard_in, line_of, plan_in, sensed_of}
 use Rattle.round_decisions.specs.Promises.{GoesOnAt, IsKeptDecision, IsKeptTurn, IsPlannedFrom, decided_line, forecast_of}
 use Rattle.round_decisions.specs.Steps.{HaveTurned}
@@ -82,6 +85,9 @@ goes-on net network state is n below heard c commit new same later =
         ends = later;
       };
       past = λ second early. own.past second (subst (λ t. second < t) (sym at.now) early);
+      waits = subst (λ t. IsRound (plan_at net n) (intergreens_of net net.run.look n) t (line_of state n) new) at.now
+          (subst (IsRound (plan_at net n) (intergreens_of net net.run.look n) (sensed_of state n).now (line_of state n)) (sym same)
+          (continues net network n below state.round (line_of state n) (sensed_of state n) heard c at.sensed.now (record { lawful = line.lawful; begins = line.begins }) commit));
     }
 
 module _ (net : Net) (network : IsNetwork net) (state : RoundState) (is : IsStateOf net state) where

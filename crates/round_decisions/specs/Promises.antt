@@ -19,6 +19,8 @@ use Rattle.runs.specs.Runs.{told_in}
 use Rattle.schedule_meaning.specs.Best.{IsLeast}
 use Rattle.signal_safety.specs.Safe.{IsSafe}
 use Rattle.switch_rules.specs.declared.Head.{Head}
+use Rattle.waits.specs.Discharges.{intergreens_of}
+use Rattle.waits.specs.Rounds.{IsRound}
 use Rattle.round_decisions.specs.Decisions.{IsDecision, line_of, sensed_of}
 use Rattle.round_decisions.specs.Turns.{IsTurn, board_of}
 use Rattle.round_decisions.specs.declared.decisions.Decision.{Decision}
@@ -43,11 +45,13 @@ pub record IsPlannedFrom (net : Net) (state : RoundState) (made : ℕ → Commit
   pub window : Window
   pub instance : IsProblemOf net plan.node (line_of state plan.node) (sensed_of state plan.node) (heard_by net state made plan) head platoons window plan.instance
 
--- how a node's line goes on from the second in which a round begins: it is one for the next round, and before that second it
--- shows the same signs
+-- How a node's line goes on from the second in which a round begins: it is one for the next round, before that second it shows the
+-- same signs, and it is continued by lawful rows whose intergreens are no longer than the node looks ahead, or than yellow and
+-- all-red take; so what bounds the waits under the line bounds them under the next one.
 pub record GoesOnAt (net : Net) (round node : ℕ) (old new : List Green) : Type 0 where
   pub next : IsLineAt (plan_at net node) (begin_of net (round + 1)) new
   pub past : (second : ℕ) → second < begin_of net round → sign_at new second ≡ sign_at old second
+  pub waits : IsRound (plan_at net node) (intergreens_of net net.run.look node) (begin_of net round) old new
 
 -- the line of a node in a decision
 abbrev pub decided_line : Decision → ℕ → List Green
