@@ -1,4 +1,5 @@
 pub mod CleanTexts
+mod CleanWaitLaws
 pub mod CutLaws
 mod LineReportLaws
 mod LineRunLaws

@@ -1,4 +1,5 @@
 pub mod Audits
+pub mod CleanWaits
 pub mod LineReports
 pub mod LineRuns
 pub mod SheetEntries

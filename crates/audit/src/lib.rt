@@ -3,6 +3,7 @@
 //! and totals.
 #![tactic(auto)]
 
+mod clean_waits;
 mod counts;
 mod findings;
 mod line_reports;
@@ -24,6 +25,7 @@ ghost use Rattle.audit.specs.SheetTexts.{HasShape};
 ghost use Rattle.signal_safety.specs.Safe.{IsSafe};
 
 use arrivals::Arrivals;
+pub use clean_waits::law_of_clean_waits;
 use counts::compare;
 pub use findings::{AuditWhy, Audited, Finding};
 use foundation::items::Items;
