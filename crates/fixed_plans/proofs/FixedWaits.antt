@@ -110,7 +110,8 @@ module _ (net : Net) (network : IsNetwork net) (rows : List FixedRow) (is : IsFi
       let g : Green = green_of by.at row in
       let placed = place-of (green_from plan cycle) (end + cycle_length plan cycle) 0 by.at g (omega arith) (omega (arith, by.inside)) by.begins in
       let x = by.at + loss in
-      let shown : signs_by (fixed_line net rows) x node ≡ On k by.at = shows-green plan p (fixed_line net rows node) (lawful node below) g placed x (omega arith) (omega (arith, has.long)) ∙ ap (λ (j : ℕ). On j by.at) has.phase in
+      let shown : (y : ℕ) → by.at ≤ y → y ≤ x → signs_by (fixed_line net rows) y node ≡ On k by.at = λ y low high.
+      shows-green plan p (fixed_line net rows node) (lawful node below) g placed y (omega (arith, low)) (omega (arith, has.long, high)) ∙ ap (λ (j : ℕ). On j by.at) has.phase in
       let link : IsLink (length net.node_names) (link_at net l) = All-get_or (IsLink (length net.node_names)) net.links l no_link (let f = network.outline.road_count in omega (arith, f, inside)) network.outline.links in
       let seen = signs_by (fixed_line net rows) in
       let early : 0 < queue net (cumulative_under net arriving seen n) n l = omega (arith, stands, queue-kept net arriving seen l inside end n (omega (arith, room))) in

@@ -25,7 +25,7 @@ use Rattle.runs.specs.Runs.{HearAlong, forecast_at, hearing, shown_by, told_in}
 use Rattle.runs.proofs.Agree.{SameBefore, commits-moved}
 use Rattle.runs.proofs.Places.{first-small, read-step}
 use Rattle.runs.proofs.PlanLists.{plans-same}
-use Rattle.runs.proofs.Resting.{stands-same}
+use Rattle.net_simulator.proofs.AtNodes.{stands-at-nodes}
 use Rattle.net_core.specs.States.{IsRunning}
 use Rattle.net_core.specs.declared.parts.Board.{Board}
 use Rattle.net_core.proofs.Prefixes.{Begun, ends-at, last-node, last-version, not-yet, now-published, own-round, own-step, round-front, step-front, version-front}
@@ -213,6 +213,6 @@ module _ (net : Net) (network : IsNetwork net) (arrivals : Amounts) (heard : ℕ
         forecasts = λ l f t d from to. is.boards_are.forecasts l f t d from to ∙ forecast-same l f t from to (version_at (board_steps net) p l (length p)) (omega arith);
       };
       second = is.second;
-      stands = stands-same net network (arriving_of arrivals) (shown_by net made) (shown_by net committed) world (λ x m less below. shown-same x m (omega (arith, is.second))) is.stands;
+      stands = stands-at-nodes net network (arriving_of arrivals) (shown_by net made) (shown_by net committed) world (λ x m less below. shown-same x m (omega (arith, is.second))) is.stands;
       planned = record { done = is.planned.done ∙ plans-same net heard heard made committed round (λ r m less below. refl) before-same; capacity = is.planned.capacity };
     }

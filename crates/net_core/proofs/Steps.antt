@@ -34,7 +34,8 @@ use Rattle.runs.proofs.PlanLists.{next-room, plans-next}
 use Rattle.runs.specs.Ending.{records_in}
 use Rattle.runs.specs.Resting.{Rests, lines_of}
 use Rattle.intersection_actor.proofs.RoundLaws.{of-without}
-use Rattle.runs.proofs.Resting.{before-shows, stands-same}
+use Rattle.runs.proofs.Resting.{before-shows}
+use Rattle.net_simulator.proofs.AtNodes.{stands-at-nodes}
 use Rattle.net_core.specs.Acts.{HasTold, Settles}
 use Rattle.net_core.specs.States.{AllDone, Between, Hears, InRound, IsRunning, Listens, Plays, Tells, telling_first}
 use Rattle.net_core.specs.declared.parts.Board.{Board}
@@ -322,7 +323,7 @@ module _ (net : Net) (network : IsNetwork net) (arrivals : Amounts) (history : L
         ∙ before-shows net network (arriving_of arrivals) (round + 1) i.heard i.made (let z = i.below in omega arith) (over-commits d) x n less below
 
     pub over-before : Acting → Stands net (arriving_of arrivals) (signs_by (lines_of actors)) world
-    over-before d = stands-same net network (arriving_of arrivals) (shown_by net i.made) (signs_by (lines_of actors)) world (λ x n less below. sym (lines-show d x n (earlier x less) below)) i.running.stands
+    over-before d = stands-at-nodes net network (arriving_of arrivals) (shown_by net i.made) (signs_by (lines_of actors)) world (λ x n less below. sym (lines-show d x n (earlier x less) below)) i.running.stands
       where
         earlier : (x : ℕ) → x < world.second → x < (round + 1) * net.run.step
         earlier x less = (let e : (round + 1) * net.run.step ≡ round * net.run.step + net.run.step = omega arith in omega (arith, e, i.running.second))
@@ -347,7 +348,7 @@ module _ (net : Net) (network : IsNetwork net) (arrivals : Amounts) (history : L
             along = i.running.along;
             boards_are = i.running.boards_are;
             second = now;
-            stands = stands-same net network (arriving_of arrivals) (signs_by (lines_of actors)) (shown_by net i.made) moved (λ x n less below. lines-show d x n (omega arith) below) stands;
+            stands = stands-at-nodes net network (arriving_of arrivals) (signs_by (lines_of actors)) (shown_by net i.made) moved (λ x n less below. lines-show d x n (omega arith) below) stands;
             planned = plans-next net i.heard i.made round plans i.running.planned actors i.all (λ n e below. (over-tells n e below).records) next added grown;
           };
           all = length-map actors without_records ∙ i.all;

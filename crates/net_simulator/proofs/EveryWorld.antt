@@ -1,6 +1,8 @@
 -- What holds of every world, whatever moves in a second: nothing is lost, and all amounts are within bounds.
 use Rattle.std.proofs.Common.{◌≡◌, ◌≢◌, ℕ, zero, suc, ◌+◌, ◌-◌, ◌*◌, ◌<◌, ◌≤◌, List, [], Option, Some, None, IfSome, All, AllPairs, length, get_or, slice_index, refl, sym, ap, ◌∙◌, inl, inr, add-one, arith}
+use Rattle.std.proofs.lemmas.Bool.{cases_lt}
 use Rattle.std.proofs.lemmas.Bool.Decides.{eqb_tells}
+use Rattle.std.proofs.lemmas.List.{get_or_past}
 use Rattle.std.proofs.lemmas.List.Elements.{All-get_or}
 use Rattle.phase_plan.specs.Phases.{phase_at, no_phase, IsPlan, IsPhase}
 use Rattle.phase_plan.specs.declared.Phase.{Phase}
@@ -21,8 +23,18 @@ use Rattle.net_simulator.proofs.Sound.{IsSound, AreMoved, next-one, is-sound}
 use Rattle.net_simulator.proofs.Keeping.{HasBounds}
 use Rattle.net_simulator.proofs.Conserving.{come, none-lost, grown, left-entered, reached-entered, on-link, waiting-on}
 
-loss-most : (plans : List (List Phase)) (n k : ℕ) → All IsPlan plans → n < length plans → k < length (get_or plans n []) → (phase_at (get_or plans n []) k).loss ≤ 10
-loss-most plans n k all there inside = (All-get_or IsPhase (get_or plans n []) k no_phase inside (All-get_or IsPlan plans n [] there all).phases).loss.0
+-- no phase loses more; where there is none, nothing is lost
+loss-of-plan : (plan : List Phase) (k : ℕ) → IsPlan plan → (phase_at plan k).loss ≤ 10
+loss-of-plan plan k is = elim (cases_lt k (length plan)) [
+  | inl inside ↦ (All-get_or IsPhase plan k no_phase inside is.phases).loss.0
+  | inr past ↦ (let e = ap (λ (p : Phase). p.loss) (get_or_past plan k no_phase past) in omega (arith, e))
+]
+
+loss-most : (plans : List (List Phase)) (n k : ℕ) → All IsPlan plans → (phase_at (get_or plans n []) k).loss ≤ 10
+loss-most plans n k all = elim (cases_lt n (length plans)) [
+  | inl there ↦ loss-of-plan (get_or plans n []) k (All-get_or IsPlan plans n [] there all)
+  | inr past ↦ (let e = ap (λ (plan : List Phase). (phase_at plan k).loss) (get_or_past plans n [] past) in omega (arith, e))
+]
 
 -- a node at the end of a link is one of the nodes
 below-some : (to : Option ℕ) (node n : ℕ) → IfSome to (λ k. k < n) → to ≡ Some node → node < n
@@ -36,9 +48,7 @@ bounds-of net network =
       some = λ l h. (link l h).travel.0;
       most = λ l h. (link l h).travel.1;
       ends = ends;
-      losses = λ l node h to.
-          let there : node < length net.plans = (let b = ends l node h to in let e = network.outline.plan_count in omega arith) in
-          loss-most net.plans node (link_at net l).phase network.outline.plans there (network.served.entries l node h to).0;
+      losses = λ node k. loss-most net.plans node k network.outline.plans;
     }
 
 pub parts-of : (net : Net) → IsNetwork net → (l : ℕ) → l < length net.link_names → HasShares net.links (turns_at net l) (link_at net l).to × AreTurns (length net.link_names) (turns_at net l)

@@ -1,18 +1,18 @@
 -- Further greens beside the home of a link never lengthen its queue.
-use Rattle.std.proofs.Common.{◌≡◌, ℕ, zero, suc, ◌+◌, ◌-◌, ◌<◌, ◌≤◌, ◌⊎◌, Bool, true, false, cond, min, refl, sym, ap, subst, ◌∙◌, inl, inr, arith}
+use Rattle.std.proofs.Common.{◌≡◌, ℕ, zero, suc, ◌+◌, ◌-◌, ◌<◌, ◌≤◌, ◌⊎◌, Bool, true, false, cond, min, ap, subst, ◌∙◌, inl, inr, arith}
 use Rattle.std.proofs.lemmas.Bool.{cases_lt, cases_Bool}
 use Rattle.std.proofs.Math.Nat.{min-le_left, min-le_right, le-min}
 use Rattle.net_simulator.specs.Discharging.{AreWays, Discharges, IsWithin, Rises, begun, green_for}
 
 -- how long a green lasts
 
-green-more : (on : ℕ → Bool) (x : ℕ) → on x ≡ true → green_for on (suc x) ≡ suc (green_for on x)
+pub green-more : (on : ℕ → Bool) (x : ℕ) → on x ≡ true → green_for on (suc x) ≡ suc (green_for on x)
 green-more on x e = ap (λ (b : Bool). cond b (suc (green_for on x)) 0) e
 
-green-none : (on : ℕ → Bool) (x : ℕ) → on x ≡ false → green_for on (suc x) ≡ 0
+pub green-none : (on : ℕ → Bool) (x : ℕ) → on x ≡ false → green_for on (suc x) ≡ 0
 green-none on x e = ap (λ (b : Bool). cond b (suc (green_for on x)) 0) e
 
-green-by : (on : ℕ → Bool) (x : ℕ) → green_for on x ≤ x
+pub green-by : (on : ℕ → Bool) (x : ℕ) → green_for on x ≤ x
 green-by on zero = omega arith
 green-by on (suc x) = elim (cases_Bool (on x)) [
   | inl is ↦ omega (arith, green-more on x is, green-by on x)

@@ -1,7 +1,7 @@
 -- One second of the code is one second of the past.
-use Rattle.std.proofs.Common.{◌≡◌, ◌≢◌, ℕ, ◌+◌, ◌-◌, ◌*◌, ◌%◌, ◌<◌, ◌≤◌, Bool, true, false, not, ◌&&◌, eqb, ltb, min, cond, List, Option, Some, None, length, slice_index, slice_index_or, refl, sym, ap, ◌∙◌, inl, inr, arith}
+use Rattle.std.proofs.Common.{◌≡◌, ◌≢◌, ℕ, ◌+◌, ◌-◌, ◌*◌, ◌%◌, ◌<◌, ◌≤◌, Bool, false, not, ◌&&◌, leb, ltb, min, cond, List, Option, Some, None, length, slice_index, slice_index_or, refl, sym, ap, ◌∙◌, inl, inr, add-one, arith}
 use Rattle.std.proofs.Math.Nat.{add-mod_right}
-use Rattle.std.proofs.lemmas.Bool.{ltb-true}
+use Rattle.std.proofs.lemmas.Bool.{cases_Bool, le-leb, lt-leb, ltb-true}
 use Rattle.std.proofs.lemmas.Bool.Decides.{eqb_tells}
 use Rattle.phase_plan.specs.Phases.{phase_at}
 use Rattle.net_parts.specs.Numbers.{Net}
@@ -13,15 +13,14 @@ use Rattle.road_net.specs.Totals.{total}
 use Rattle.net_simulator.specs.Flow.{Cumulative, queue, waiting, is_lost, may_go, discharge_to, discharge}
 use Rattle.net_simulator.specs.Moves.{Moves}
 use Rattle.net_simulator.specs.Rows.{cell}
-use Rattle.net_simulator.specs.LinkSeconds.{HasBegun, is_open, waits_at}
+use Rattle.net_simulator.specs.Discharging.{begun}
+use Rattle.net_simulator.specs.LinkGreens.{is_green, lit_since, loss_of, never}
+use Rattle.net_simulator.specs.LinkSeconds.{is_open, waits_at}
 use Rattle.net_simulator.specs.Steps.{goes}
 use Rattle.net_simulator.specs.Worlds.{Keeps}
 use Rattle.road_net.proofs.TotalLaws.{total-same}
+use Rattle.net_simulator.proofs.LightLaws.{and-same, begun-by}
 use Rattle.net_simulator.proofs.Sound.{IsSound, Continues}
-
-and-same : (a b c : Bool) → (a ≡ true → b ≡ c) → (a && b) ≡ (a && c)
-and-same true b c same = same refl
-and-same false b c same = refl
 
 -- one turn of the row later the cell is the same
 cell-turn : (rows : List ℕ) (l y z : ℕ) → y ≡ z + 128 → cell rows l y ≡ cell rows l z
@@ -35,7 +34,7 @@ pub record HasBounds (net : Net) : Type 0 where
   pub some : (l : ℕ) → l < length net.link_names → 1 ≤ (link_at net l).travel
   pub most : (l : ℕ) → l < length net.link_names → (link_at net l).travel ≤ 120
   pub ends : (l node : ℕ) → l < length net.link_names → (link_at net l).to ≡ Some node → node < length net.node_names
-  pub losses : (l node : ℕ) → l < length net.link_names → (link_at net l).to ≡ Some node → (phase_at (plan_at net node) (link_at net l).phase).loss ≤ 10
+  pub losses : (node k : ℕ) → (phase_at (plan_at net node) k).loss ≤ 10
 
 module _ (net : Net) (x : ℕ) (before : ℕ → ℕ → Cumulative) (qs rs ws : List ℕ) (bounds : HasBounds net) (sound : IsSound net before x) (keeps : Keeps net before qs rs ws x) where
   -- what waits
@@ -65,32 +64,45 @@ module _ (net : Net) (x : ℕ) (before : ℕ → ℕ → Cumulative) (qs rs ws :
       let turned = cell-turn ws l (x + 128 - (x - from)) from (omega arith) in
       ap (ltb 0) (sym turned ∙ kept ∙ ap (λ n. queue net before n l) d))
 
-  pub open-same : (l node : ℕ) (sign : Sign) → l < length net.link_names → (link_at net l).to ≡ Some node → HasBegun x sign → is_open net ws x l node sign ≡ may_go net before x l node sign
-  open-same l node Dark h to begun = refl
-  open-same l node (Change from next) h to begun = refl
-  open-same l node (On phase since) h to begun =
-      let loss = (phase_at (plan_at net node) phase).loss in
-      and-same (eqb phase (link_at net l).phase) (not (is_lost loss since x (cell ws l since))) (not (is_lost loss since x (queue net before since l))) (λ e.
-      elim (eqb_tells phase (link_at net l).phase) [
-        | inl p ↦
-            let small : loss ≤ 10 = omega (arith, bounds.losses l node h to, ap (λ k. (phase_at (plan_at net node) k).loss) p.1) in
-            ap not (lost-same l since loss h begun small)
-        | inr q ↦ let impossible : true ≡ false = sym e ∙ q.0 in let r : not (is_lost loss since x (cell ws l since)) ≡ not (is_lost loss since x (queue net before since l)) = cc in r
-      ])
+  loss-small : (node : ℕ) (sign : Sign) → loss_of (plan_at net node) sign ≤ 10
+  loss-small node (On phase since) = bounds.losses node phase
+  loss-small node (Change from to) = bounds.losses node from
+  loss-small node Dark = omega arith
 
-  goes-to : (shown : ℕ → Sign) (signs : List Sign) (l w : ℕ) (to : Option ℕ) → l < length net.link_names → (link_at net l).to ≡ to
-      → ((n : ℕ) → n < length net.node_names → HasBegun x (slice_index_or signs n Dark)) → ((n : ℕ) → n < length net.node_names → shown n ≡ slice_index_or signs n Dark) → w ≡ waiting net before x l
-      → goes net signs ws x l w to ≡ discharge_to net shown before x l to
-  goes-to shown signs l w None h to begun seen same = same
-  goes-to shown signs l w (Some node) h to begun seen same =
-      let there = bounds.ends l node h to in
-      let may = open-same l node (slice_index_or signs node Dark) h to (begun node there) ∙ ap (may_go net before x l node) (sym (seen node there)) in
-      ap (λ b. cond b (min (link_at net l).sat w) 0) may ∙ ap (λ n. cond (may_go net before x l node (shown node)) (min (link_at net l).sat n) 0) same
+  pub open-same : (shown : ℕ → ℕ → Sign) (since : List ℕ) (l node : ℕ) → l < length net.link_names → (link_at net l).to ≡ Some node → x < 4294967295
+      → slice_index since l ≡ lit_since (is_green net shown l) (x + 1) → is_open net ws since x l node (shown x node) ≡ may_go net shown before x l node
+  open-same shown since l node h to early lit =
+      let on = is_green net shown l in
+      let loss = loss_of (plan_at net node) (shown x node) in
+      let here = lit ∙ ap (lit_since on) (add-one x) in
+      elim (cases_Bool (on x)) [
+        | inl is ↦
+            let from : slice_index since l ≡ begun on x = here ∙ ap (λ (b : Bool). cond b (begun on x) never) is in
+            let opens : (leb (begun on x) x && not (is_lost loss (begun on x) x (cell ws l (begun on x)))) ≡ not (is_lost loss (begun on x) x (cell ws l (begun on x))) =
+            ap (λ (b : Bool). b && not (is_lost loss (begun on x) x (cell ws l (begun on x)))) (le-leb (begun on x) x (begun-by on x)) in
+            let may : may_go net shown before x l node ≡ not (is_lost loss (begun on x) x (queue net before (begun on x) l)) =
+            ap (λ (b : Bool). b && not (is_lost loss (begun on x) x (queue net before (begun on x) l))) is in
+            ap (λ b. leb b x && not (is_lost loss b x (cell ws l b))) from ∙ opens
+            ∙ ap not (lost-same l (begun on x) loss h (begun-by on x) (loss-small node (shown x node))) ∙ sym may
+        | inr isnt ↦
+            let from : slice_index since l ≡ never = here ∙ ap (λ (b : Bool). cond b (begun on x) never) isnt in
+            let opens : is_open net ws since x l node (shown x node) ≡ false =
+            ap (λ b. leb b x && not (is_lost loss b x (cell ws l b))) from ∙ ap (λ (b : Bool). b && not (is_lost loss never x (cell ws l never))) (lt-leb never x early) in
+            opens ∙ sym (ap (λ (b : Bool). b && not (is_lost loss (begun on x) x (queue net before (begun on x) l))) isnt)
+      ]
 
-  pub goes-same : (shown : ℕ → Sign) (signs : List Sign) (l w : ℕ) → l < length net.link_names
-      → ((n : ℕ) → n < length net.node_names → HasBegun x (slice_index_or signs n Dark)) → ((n : ℕ) → n < length net.node_names → shown n ≡ slice_index_or signs n Dark) → w ≡ waiting net before x l
-      → goes net signs ws x l w (link_at net l).to ≡ discharge net shown before x l
-  goes-same shown signs l w h begun seen same = goes-to shown signs l w (link_at net l).to h refl begun seen same
+  goes-to : (shown : ℕ → ℕ → Sign) (signs : List Sign) (since : List ℕ) (l w : ℕ) (to : Option ℕ) → l < length net.link_names → (link_at net l).to ≡ to → x < 4294967295
+      → slice_index since l ≡ lit_since (is_green net shown l) (x + 1) → ((n : ℕ) → n < length net.node_names → shown x n ≡ slice_index_or signs n Dark) → w ≡ waiting net before x l
+      → goes net signs since ws x l w to ≡ discharge_to net shown before x l to
+  goes-to shown signs since l w None h to early lit seen same = same
+  goes-to shown signs since l w (Some node) h to early lit seen same =
+      let may = ap (is_open net ws since x l node) (sym (seen node (bounds.ends l node h to))) ∙ open-same shown since l node h to early lit in
+      ap (λ b. cond b (min (link_at net l).sat w) 0) may ∙ ap (λ n. cond (may_go net shown before x l node) (min (link_at net l).sat n) 0) same
+
+  pub goes-same : (shown : ℕ → ℕ → Sign) (signs : List Sign) (since : List ℕ) (l w : ℕ) → l < length net.link_names → x < 4294967295
+      → slice_index since l ≡ lit_since (is_green net shown l) (x + 1) → ((n : ℕ) → n < length net.node_names → shown x n ≡ slice_index_or signs n Dark) → w ≡ waiting net before x l
+      → goes net signs since ws x l w (link_at net l).to ≡ discharge net shown before x l
+  goes-same shown signs since l w h early lit seen same = goes-to shown signs since l w (link_at net l).to h refl early lit seen same
 
 module _ (net : Net) (m : Moves) (x : ℕ) (before after : ℕ → ℕ → Cumulative) (qs rs ws : List ℕ)
     (bounds : HasBounds net) (on : Continues net m x before after) (keeps : Keeps net before qs rs ws x) where

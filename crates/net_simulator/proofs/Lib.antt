@@ -1,10 +1,12 @@
 pub mod Sums
+pub mod LightLaws
 pub mod MoveLaws
 pub mod FlowLaws
 pub mod Turning
 pub mod Sound
 pub mod Standing
 pub mod Keeping
+pub mod Lighting
 pub mod Leaving
 pub mod Conserving
 pub mod EveryWorld

@@ -15,7 +15,7 @@ use Rattle.control_flow.specs.declared.greens.Sign.{Sign}
 
 -- what moves in a second, where each link discharges into links that take whatever enters, and all that arrives enters
 abbrev pub flowing : Net → (ℕ → ℕ → ℕ) → (ℕ → ℕ → Sign) → List (List Cumulative) → ℕ → Moves
-flowing net arriving shown before x = record { goes = discharge net (shown x) (passed_in before) x; comes = arriving x }
+flowing net arriving shown before x = record { goes = discharge net shown (passed_in before) x; comes = arriving x }
 
 -- the world of these moves is the world that stands
 pub same-history : (net : Net) (arriving : ℕ → ℕ → ℕ) (shown : ℕ → ℕ → Sign) (n : ℕ) → history net arriving shown n ≡ history_by net (flowing net arriving shown) n

@@ -1,32 +1,32 @@
 -- A world that stands for its past stands for it one second later.
-use Rattle.std.proofs.Common.{◌≡◌, ◌≢◌, ℕ, zero, suc, ◌+◌, ◌-◌, ◌*◌, ◌%◌, ◌<◌, ◌≤◌, List, [], ◌∷◌, Option, Some, None, length, replicate, get_or, slice_index, slice_index_or, refl, sym, ap, subst, ◌∙◌, add-one, inl, inr, arith}
-use Rattle.std.proofs.lemmas.Bool.{cases_lt}
+use Rattle.std.proofs.Common.{◌≡◌, ◌≢◌, ℕ, zero, suc, ◌+◌, ◌-◌, ◌*◌, ◌%◌, ◌<◌, ◌≤◌, List, Option, Some, None, length, replicate, get_or, slice_index, slice_index_or, refl, sym, ap, subst, ◌∙◌, add-one, arith}
 use Rattle.net_parts.specs.Numbers.{Net}
 use Rattle.net_parts.specs.Outline.{link_at, turns_at}
 use Rattle.road_net.specs.Joins.{split_of}
 use Rattle.road_net.specs.Network.{IsNetwork}
 use Rattle.control_flow.specs.declared.greens.Green.{Green}
-use Rattle.control_flow.specs.Signs.{change_from, sign_after, sign_at}
+use Rattle.control_flow.specs.Signs.{sign_at}
 use Rattle.control_flow.specs.declared.greens.Sign.{Sign}
 use Rattle.control_flow.specs.declared.greens.Sign.TheVariants.{Dark}
-use Rattle.control_flow.proofs.SignLaws.{after-row, before-row, within-row}
 use Rattle.net_simulator.specs.declared.totals.LinkTotals.{LinkTotals}
 use Rattle.net_simulator.specs.declared.totals.Totals.{Totals}
 use Rattle.road_net.specs.Totals.{total}
 use Rattle.net_simulator.specs.Flow.{Cumulative, passed_in, nothing, queue, waiting, discharge, entered_in, cumulative_under}
 use Rattle.arrivals.specs.Amounts.{Amounts, AreArrivals, arriving_of}
 use Rattle.net_simulator.specs.Sums.{outward, total_arrived, total_left, on_road, delay, link_totals, totals, AreFew}
+use Rattle.net_simulator.specs.LinkGreens.{is_green, last_sign, lit_since, never}
 use Rattle.net_simulator.specs.Moves.{Moves}
 use Rattle.net_simulator.specs.Rows.{cell}
 use Rattle.net_simulator.specs.Counts.{counts_at, no_totals}
-use Rattle.net_simulator.specs.LinkSeconds.{HasBegun, waits_at, stands_on}
+use Rattle.net_simulator.specs.LinkSeconds.{waits_at, stands_on}
 use Rattle.net_simulator.specs.Steps.{goes, goes_out, all_of, counted, FitsSeconds}
 use Rattle.net_simulator.specs.Senses.{stood}
-use Rattle.net_simulator.specs.Worlds.{WorldState, HasShape, Keeps, Stands, signs_by}
+use Rattle.net_simulator.specs.Worlds.{AreShown, WorldState, HasShape, Keeps, Stands, signs_by}
 use Rattle.road_net.proofs.TotalLaws.{total-same, total-le, total-zero}
 use Rattle.net_simulator.proofs.Sums.{total-of}
 use Rattle.net_simulator.proofs.MoveLaws.{flowing, same-history, zero-by}
-use Rattle.net_simulator.proofs.FlowLaws.{history-same}
+use Rattle.net_simulator.proofs.FlowLaws.{history-alike}
+use Rattle.net_simulator.proofs.LightLaws.{AreAlike, alike-shown, are-shown-same}
 use Rattle.net_simulator.proofs.Sound.{IsSound, Continues, AreMoved, flows, flow-moved, next-one}
 use Rattle.net_simulator.proofs.Keeping.{waits-same, goes-same, kept-queue, keeps-next}
 use Rattle.net_simulator.proofs.EveryWorld.{bounds-of, are-sound, all-there, gone-more, delay-more, delays-more, road-most, out-most, waits-most, enters-most, entered-most, delay-within}
@@ -37,25 +37,7 @@ use Rattle.net_simulator.proofs.Conserving.{left-entered}
 pub few-of : (net : Net) → IsNetwork net → (a : Amounts) → AreArrivals net a → AreFew net (arriving_of a)
 few-of net network a enter n = subst (λ k. total (λ x. total (arriving_of a x) k) n ≤ 2000000000) network.outline.road_count (enter.few n)
 
--- the green of a sign has begun
-change-begun : (before : Option ℕ) (j x : ℕ) → HasBegun x (change_from before j)
-change-begun None j x = tt
-change-begun (Some k) j x = tt
-
-sign-begun : (before : Option ℕ) (rows : List Green) (x : ℕ) → HasBegun x (sign_after before rows x)
-sign-begun before [] x = tt
-sign-begun before (r ∷ rs) x = elim (cases_lt x r.from) [
-  | inl early ↦ rw (before-row before r rs x early) (change-begun before r.phase x)
-  | inr begun ↦ elim (cases_lt x r.to) [
-    | inl within ↦ rw (within-row before r rs x begun within) begun
-    | inr over ↦ rw (after-row before r rs x begun over) (sign-begun (Some r.phase) rs x)
-  ]
-]
-
-pub begun-by : (signs : List Sign) (nodes : ℕ) (lines : ℕ → List Green) (x : ℕ) → ((n : ℕ) → n < nodes → slice_index_or signs n Dark ≡ sign_at (lines n) x)
-    → (n : ℕ) → n < nodes → HasBegun x (slice_index_or signs n Dark)
-begun-by signs nodes lines x seen n h = rw (seen n h) (sign-begun None (lines n) x)
-
+-- what the signals show
 pub seen-by : (signs : List Sign) (nodes : ℕ) (lines : ℕ → List Green) (x : ℕ) → ((n : ℕ) → n < nodes → slice_index_or signs n Dark ≡ sign_at (lines n) x)
     → (n : ℕ) → n < nodes → signs_by lines x n ≡ slice_index_or signs n Dark
 seen-by signs nodes lines x seen n h = sym (seen n h)
@@ -81,7 +63,7 @@ module _ (net : Net) (network : IsNetwork net) (arriving : ℕ → ℕ → ℕ) 
   pub gone-most : (n : ℕ) → total_left net (cumulative_under net arriving shown n) n ≤ 2000000000
   gone-most = out-most net network (flows net arriving shown) (cumulative_under net arriving shown) (flow-moved net arriving shown) arrivals
 
-  pub entering-most : (x l : ℕ) → l < length net.link_names → entered_in net (arriving x) (shown x) (cumulative_under net arriving shown x) x l ≤ 2000000000
+  pub entering-most : (x l : ℕ) → l < length net.link_names → entered_in net (arriving x) shown (cumulative_under net arriving shown x) x l ≤ 2000000000
   entering-most = enters-most net network (flows net arriving shown) (cumulative_under net arriving shown) (flow-moved net arriving shown) arrivals
 
   pub entered-small : (n l : ℕ) → l < length net.link_names → (cumulative_under net arriving shown n n l).entered ≤ n * 2000000000
@@ -91,10 +73,10 @@ module _ (net : Net) (network : IsNetwork net) (arriving : ℕ → ℕ → ℕ) 
   delay-small = delay-within net network (flows net arriving shown) (cumulative_under net arriving shown) (flow-moved net arriving shown) arrivals
 
 -- what the code does in second x
-pub record IsStep (net : Net) (arriving : ℕ → ℕ) (x : ℕ) (signs : List Sign) (rs1 lv : List ℕ) (w v : WorldState) : Type 0 where
+pub record IsStep (net : Net) (arriving : ℕ → ℕ) (x : ℕ) (rs1 lv : List ℕ) (w v : WorldState) : Type 0 where
   pub arrives : (l : ℕ) → l < length net.link_names → cell rs1 l x ≡ arriving l
   pub arrives-others : (l y : ℕ) → y % 128 ≢ x % 128 → cell rs1 l y ≡ cell w.recent l y
-  pub leaves : (l : ℕ) → l < length net.link_names → slice_index lv l ≡ goes net signs w.waits x l (waits_at net w.queues rs1 x l) (link_at net l).to
+  pub leaves : (l : ℕ) → l < length net.link_names → slice_index lv l ≡ goes net v.signs v.since w.waits x l (waits_at net w.queues rs1 x l) (link_at net l).to
   pub queues : (l : ℕ) → l < length net.link_names → slice_index v.queues l ≡ waits_at net w.queues rs1 x l - slice_index lv l
   pub enters : (l : ℕ) → l < length net.link_names → cell v.recent l x ≡ cell rs1 l x + total (λ k. split_of (turns_at net k) (slice_index lv k) l) (length net.link_names)
   pub enters-others : (l y : ℕ) → y % 128 ≢ x % 128 → cell v.recent l y ≡ cell rs1 l y
@@ -131,22 +113,23 @@ module _ (net : Net) (network : IsNetwork net) (arriving : ℕ → ℕ → ℕ) 
   room-leave rs1 others l h = omega (arith, waits-now rs1 others l h, waits-most net network moves past course arrivals w.second l h)
 
   -- what leaves in this second
-  pub leaves-now : (signs : List Sign) (rs1 lv : List ℕ) → ((n : ℕ) → n < length net.node_names → slice_index_or signs n Dark ≡ sign_at (lines n) w.second)
+  pub leaves-now : (signs : List Sign) (since rs1 lv : List ℕ) → w.second < 18000 → ((n : ℕ) → n < length net.node_names → slice_index_or signs n Dark ≡ sign_at (lines n) w.second)
+      → ((l : ℕ) → l < length net.link_names → slice_index since l ≡ lit_since (is_green net (signs_by lines) l) (w.second + 1))
       → ((l y : ℕ) → y % 128 ≢ w.second % 128 → cell rs1 l y ≡ cell w.recent l y)
-      → ((l : ℕ) → l < length net.link_names → slice_index lv l ≡ goes net signs w.waits w.second l (waits_at net w.queues rs1 w.second l) (link_at net l).to)
-      → (l : ℕ) → l < length net.link_names → slice_index lv l ≡ discharge net (signs_by lines w.second) before w.second l
-  leaves-now signs rs1 lv seen others leaves l h =
-      leaves l h ∙ goes-same net w.second before w.queues w.recent w.waits (bounds-of net network) sound stands.keeps (signs_by lines w.second)
-      signs l (waits_at net w.queues rs1 w.second l) h (begun-by signs (length net.node_names) lines w.second seen) (seen-by signs (length net.node_names) lines w.second seen) (waits-now rs1 others l h)
+      → ((l : ℕ) → l < length net.link_names → slice_index lv l ≡ goes net signs since w.waits w.second l (waits_at net w.queues rs1 w.second l) (link_at net l).to)
+      → (l : ℕ) → l < length net.link_names → slice_index lv l ≡ discharge net (signs_by lines) before w.second l
+  leaves-now signs since rs1 lv early seen lit others leaves l h =
+      leaves l h ∙ goes-same net w.second before w.queues w.recent w.waits (bounds-of net network) sound stands.keeps (signs_by lines)
+      signs since l (waits_at net w.queues rs1 w.second l) h (omega (arith, early)) (lit l h) (seen-by signs (length net.node_names) lines w.second seen) (waits-now rs1 others l h)
 
   -- what enters in this second, by what the code keeps
-  pub enters-now : (lv : List ℕ) → ((l : ℕ) → l < length net.link_names → slice_index lv l ≡ discharge net (signs_by lines w.second) before w.second l)
-      → (l : ℕ) → arriving w.second l + total (λ k. split_of (turns_at net k) (slice_index lv k) l) (length net.link_names) ≡ entered_in net (arriving w.second) (signs_by lines w.second) before w.second l
+  pub enters-now : (lv : List ℕ) → ((l : ℕ) → l < length net.link_names → slice_index lv l ≡ discharge net (signs_by lines) before w.second l)
+      → (l : ℕ) → arriving w.second l + total (λ k. split_of (turns_at net k) (slice_index lv k) l) (length net.link_names) ≡ entered_in net (arriving w.second) (signs_by lines) before w.second l
   enters-now lv leaves l =
-      let same = total-same (λ k. split_of (turns_at net k) (slice_index lv k) l) (λ k. split_of (turns_at net k) (discharge net (signs_by lines w.second) before w.second k) l) (length net.link_names) (λ k b. ap (λ a. split_of (turns_at net k) a l) (leaves k b)) in
+      let same = total-same (λ k. split_of (turns_at net k) (slice_index lv k) l) (λ k. split_of (turns_at net k) (discharge net (signs_by lines) before w.second k) l) (length net.link_names) (λ k b. ap (λ a. split_of (turns_at net k) a l) (leaves k b)) in
       omega (arith, same)
 
-  pub room-enter : (rs1 lv : List ℕ) → ((l : ℕ) → l < length net.link_names → slice_index lv l ≡ discharge net (signs_by lines w.second) before w.second l)
+  pub room-enter : (rs1 lv : List ℕ) → ((l : ℕ) → l < length net.link_names → slice_index lv l ≡ discharge net (signs_by lines) before w.second l)
       → ((l : ℕ) → l < length net.link_names → cell rs1 l w.second ≡ arriving w.second l)
       → (l : ℕ) → l < length net.link_names → cell rs1 l w.second + total (λ k. split_of (turns_at net k) (slice_index lv k) l) (length net.link_names) < 4294967296
   room-enter rs1 lv leaves here l h = omega (arith, here l h, enters-now lv leaves l, entering-most net network arriving (signs_by lines) arrivals w.second l h)
@@ -155,7 +138,7 @@ module _ (net : Net) (network : IsNetwork net) (arriving : ℕ → ℕ → ℕ) 
   pub room-entered : w.totals.entered + total (arriving w.second) (length net.link_names) ≤ 2000000000
   room-entered = let most = arrivals (suc w.second) in omega (arith, ap (λ (t : Totals). t.entered) stands.totals, most)
 
-  pub room-left : (lv : List ℕ) → ((l : ℕ) → l < length net.link_names → slice_index lv l ≡ discharge net (signs_by lines w.second) before w.second l)
+  pub room-left : (lv : List ℕ) → ((l : ℕ) → l < length net.link_names → slice_index lv l ≡ discharge net (signs_by lines) before w.second l)
       → w.totals.left + goes_out net lv ≤ w.totals.entered + total (arriving w.second) (length net.link_names)
   room-left lv leaves =
       let whole = whole-at net network arriving (signs_by lines) (w.second + 1) in
@@ -169,15 +152,16 @@ module _ (net : Net) (network : IsNetwork net) (arriving : ℕ → ℕ → ℕ) 
       let few = network.outline.link_count.1 in
       omega (arith, ap (λ (t : Totals). t.delay) stands.totals, each, all, few)
 
-  pub stands-next : (signs : List Sign) (rs1 lv : List ℕ) (v : WorldState) → w.second < 18000 → v.second ≡ w.second + 1 → HasShape net v
-      → ((n : ℕ) → n < length net.node_names → slice_index_or signs n Dark ≡ sign_at (lines n) w.second)
-      → IsStep net (arriving w.second) w.second signs rs1 lv w v → Stands net arriving (signs_by lines) v
-  stands-next signs rs1 lv v below second shape seen step =
+  pub stands-next : (rs1 lv : List ℕ) (v : WorldState) → w.second < 18000 → v.second ≡ w.second + 1 → HasShape net v
+      → ((n : ℕ) → n < length net.node_names → slice_index_or v.signs n Dark ≡ sign_at (lines n) w.second)
+      → ((l : ℕ) → l < length net.link_names → slice_index v.since l ≡ lit_since (is_green net (signs_by lines) l) (w.second + 1))
+      → IsStep net (arriving w.second) w.second rs1 lv w v → Stands net arriving (signs_by lines) v
+  stands-next rs1 lv v below second shape seen lit step =
       let x : ℕ = w.second in
       let S : ℕ → ℕ → Sign = signs_by lines in
       let Q : ℕ → ℕ → Cumulative = cumulative_under net arriving S (x + 1) in
       let on : Continues net (moves x) x before Q = next-one net moves past course x in
-      let leaves = leaves-now signs rs1 lv seen step.arrives-others step.leaves in
+      let leaves = leaves-now v.signs v.since rs1 lv below seen lit step.arrives-others step.leaves in
       let recent : (l : ℕ) → l < length net.link_names → cell v.recent l x ≡ arriving x l + total (λ k. split_of (turns_at net k) (slice_index lv k) l) (length net.link_names) = λ l h. omega (arith, step.enters l h, step.arrives l h) in
       let keeps : Keeps net Q v.queues v.recent v.waits (x + 1) =
       keeps-next net (moves x) x before Q w.queues w.recent w.waits (bounds-of net network) on stands.keeps lv v.queues v.recent v.waits leaves
@@ -203,6 +187,7 @@ module _ (net : Net) (network : IsNetwork net) (arriving : ℕ → ℕ → ℕ) 
         counts = λ l h. subst (λ n. counts_at v.counts l ≡ link_totals net (cumulative_under net arriving S n) n l) (sym second) (counts l h);
         totals = subst (λ n. v.totals ≡ totals net arriving (cumulative_under net arriving S n) n) (sym second) (same-totals v.totals (totals net arriving Q (x + 1)) all-entered all-left all-on all-delay);
         stood = λ l h. subst (λ n. slice_index v.stood l ≡ stood net (cumulative_under net arriving S n) n l) (sym second) (standing l h);
+        lights = subst (λ n. AreShown net S n v.signs v.since) (sym second) (record { signs = λ node h. seen node h ∙ sym (ap (λ n. last_sign S n node) (add-one x)); since = lit });
       }
 
   -- a queue has stood for no longer than the world
@@ -223,11 +208,15 @@ module _ (net : Net) (network : IsNetwork net) (arriving : ℕ → ℕ → ℕ) 
       }
 
 -- a world that stands, seen as `v`, by lists that are those that it keeps
-pub stands-parts : (net : Net) (arriving : ℕ → ℕ → ℕ) (shown : ℕ → ℕ → Sign) (w v : WorldState) (n : ℕ) (qs rs ws ss : List ℕ) (cs : List LinkTotals)
-    → w ≡ v → n ≡ w.nodes → qs ≡ w.queues → rs ≡ w.recent → ws ≡ w.waits → ss ≡ w.stood → cs ≡ w.counts → Stands net arriving shown v
-    → Stands net arriving shown (record { second = w.second; nodes = n; queues = qs; recent = rs; waits = ws; stood = ss; counts = cs; totals = w.totals })
-stands-parts net arriving shown w v n qs rs ws ss cs seen a b c d e f stands =
-    subst (Stands net arriving shown) (λ i. record { second = w.second; nodes = sym a i; queues = sym b i; recent = sym c i; waits = sym d i; stood = sym e i; counts = sym f i; totals = w.totals }) (subst (Stands net arriving shown) (sym seen) stands)
+pub stands-parts : (net : Net) (arriving : ℕ → ℕ → ℕ) (shown : ℕ → ℕ → Sign) (w v : WorldState) (gs : List Sign) (fs qs rs ws ss : List ℕ) (cs : List LinkTotals)
+    → w ≡ v → gs ≡ w.signs → fs ≡ w.since → qs ≡ w.queues → rs ≡ w.recent → ws ≡ w.waits → ss ≡ w.stood → cs ≡ w.counts → Stands net arriving shown v
+    → Stands net arriving shown (record { second = w.second; signs = gs; since = fs; queues = qs; recent = rs; waits = ws; stood = ss; counts = cs; totals = w.totals })
+stands-parts net arriving shown w v gs fs qs rs ws ss cs seen a z b c d e f stands =
+    subst (Stands net arriving shown) (λ i. record { second = w.second; signs = sym a i; since = sym z i; queues = sym b i; recent = sym c i; waits = sym d i; stood = sym e i; counts = sym f i; totals = w.totals }) (subst (Stands net arriving shown) (sym seen) stands)
+
+-- what is kept of lights, in lists that are those that are kept
+pub lights-parts : (net : Net) (shown : ℕ → ℕ → Sign) (x : ℕ) (last gs : List Sign) (lit fs : List ℕ) → gs ≡ last → fs ≡ lit → AreShown net shown x last lit → AreShown net shown x gs fs
+lights-parts net shown x last gs lit fs a b are = subst (AreShown net shown x gs) (sym b) (subst (λ ss. AreShown net shown x ss lit) (sym a) are)
 
 outward-none : (to : Option ℕ) → outward to 0 ≡ 0
 outward-none None = refl
@@ -238,8 +227,9 @@ past-zero : (net : Net) (arriving : ℕ → ℕ → ℕ) (shown : ℕ → ℕ �
 past-zero net arriving shown n l = rw (same-history net arriving shown 0) (zero-by net (flowing net arriving shown) n l)
 
 pub stands-new : (net : Net) (arriving : ℕ → ℕ → ℕ) (shown : ℕ → ℕ → Sign) (w : WorldState) → w.second ≡ 0 → HasShape net w → ((k : ℕ) → get_or w.queues k 0 ≡ 0) → ((k : ℕ) → get_or w.recent k 0 ≡ 0) → ((k : ℕ) → get_or w.waits k 0 ≡ 0) → ((k : ℕ) → get_or w.stood k 0 ≡ 0)
-    → ((k : ℕ) → counts_at w.counts k ≡ no_totals) → w.totals ≡ record { entered = 0; left = 0; on = 0; delay = 0 } → Stands net arriving shown w
-stands-new net arriving shown w at shape qs rs ws ss cs ts =
+    → ((k : ℕ) → counts_at w.counts k ≡ no_totals) → w.totals ≡ record { entered = 0; left = 0; on = 0; delay = 0 }
+    → ((k : ℕ) → get_or w.signs k Dark ≡ Dark) → ((k : ℕ) → k < length net.link_names → get_or w.since k 0 ≡ never) → Stands net arriving shown w
+stands-new net arriving shown w at shape qs rs ws ss cs ts gs fs =
     let P : ℕ → ℕ → Cumulative = cumulative_under net arriving shown w.second in
     let none : (n l : ℕ) → P n l ≡ nothing = λ n l. ap (λ x. cumulative_under net arriving shown x n l) at ∙ past-zero net arriving shown n l in
     let in-none : (n l : ℕ) → (P n l).entered ≡ 0 = λ n l. ap (λ (q : Cumulative). q.entered) (none n l) in
@@ -259,12 +249,14 @@ stands-new net arriving shown w at shape qs rs ws ss cs ts =
       counts = λ l h. cs l ∙ same-link no_totals (link_totals net P w.second l) (sym (in-none w.second l)) (sym (out-none w.second l)) (sym (no-delay l));
       totals = ts ∙ same-totals (record { entered = 0; left = 0; on = 0; delay = 0 }) (totals net arriving P w.second) (sym (ap (total_arrived net arriving) at)) (sym left-none) (sym on-none) (sym delay-none);
       stood = λ l h. ss l ∙ sym (ap (λ n. stood net P n l) at ∙ stood-none net P l);
+      lights = subst (λ n. AreShown net shown n w.signs w.since) (sym at) (record { signs = λ node h. gs node; since = fs });
     }
 
--- a timeline counts only by what it shows in the seconds below now
-pub stands-under : (net : Net) (arriving : ℕ → ℕ → ℕ) (shown seen : ℕ → ℕ → Sign) (w : WorldState) → ((x node : ℕ) → x < w.second → shown x node ≡ seen x node) → Stands net arriving shown w → Stands net arriving seen w
-stands-under net arriving shown seen w same stands =
-    let e = history-same net arriving arriving shown seen w.second (λ x l h. refl) same in
+-- signs count only by which links are green in the seconds below now, and by the last ones
+pub stands-alike : (net : Net) (arriving : ℕ → ℕ → ℕ) (shown seen : ℕ → ℕ → Sign) (w : WorldState) → AreAlike net w.second shown seen
+    → ((x node : ℕ) → x < w.second → node < length net.node_names → shown x node ≡ seen x node) → Stands net arriving shown w → Stands net arriving seen w
+stands-alike net arriving shown seen w alike same stands =
+    let e = history-alike net arriving shown seen w.second alike in
     record {
       shape = stands.shape;
       by = stands.by;
@@ -272,7 +264,13 @@ stands-under net arriving shown seen w same stands =
       counts = λ l h. subst (λ p. counts_at w.counts l ≡ link_totals net (passed_in p) w.second l) e (stands.counts l h);
       totals = subst (λ p. w.totals ≡ totals net arriving (passed_in p) w.second) e stands.totals;
       stood = λ l h. subst (λ p. slice_index w.stood l ≡ stood net (passed_in p) w.second l) e (stands.stood l h);
+      lights = are-shown-same net w.second shown seen w.signs w.since alike same stands.lights;
     }
+
+-- a timeline counts only by what it shows in the seconds below now
+pub stands-under : (net : Net) (arriving : ℕ → ℕ → ℕ) (shown seen : ℕ → ℕ → Sign) (w : WorldState) → ((x node : ℕ) → x < w.second → shown x node ≡ seen x node) → Stands net arriving shown w → Stands net arriving seen w
+stands-under net arriving shown seen w same =
+    stands-alike net arriving shown seen w (alike-shown net w.second shown seen (λ x l node h to. same x node h)) (λ x node h below. same x node h)
 
 pub zeros : {A : Type 0} (n k : ℕ) (a : A) → get_or (replicate n a) k a ≡ a
 zeros zero k a = refl

@@ -10,9 +10,9 @@ use Rattle.net_simulator.proofs.MoveLaws.{flowing, cumulative_by, moves_by, kept
 use Rattle.net_simulator.proofs.FlowLaws.{past-kept, past-next, past-none}
 use Rattle.control_flow.specs.declared.greens.Sign.{Sign}
 
-pub discharge_to-most : (net : Net) (shown : ℕ → Sign) (past : ℕ → ℕ → Cumulative) (x l : ℕ) (to : Option ℕ) → discharge_to net shown past x l to ≤ waiting net past x l
+pub discharge_to-most : (net : Net) (shown : ℕ → ℕ → Sign) (past : ℕ → ℕ → Cumulative) (x l : ℕ) (to : Option ℕ) → discharge_to net shown past x l to ≤ waiting net past x l
 discharge_to-most net shown past x l None = omega arith
-discharge_to-most net shown past x l (Some node) = cond_both (may_go net past x l node (shown node)) (min (link_at net l).sat (waiting net past x l)) 0 (λ n. n ≤ waiting net past x l) (λ e. omega arith) (λ e. omega arith)
+discharge_to-most net shown past x l (Some node) = cond_both (may_go net shown past x l node) (min (link_at net l).sat (waiting net past x l)) 0 (λ n. n ≤ waiting net past x l) (λ e. omega arith) (λ e. omega arith)
 
 pub record IsSound (net : Net) (past : ℕ → ℕ → Cumulative) (n : ℕ) : Type 0 where
   pub grows : (k l : ℕ) → k < n → l < length net.link_names → (past k l).entered ≤ (past (k + 1) l).entered
@@ -49,7 +49,7 @@ pub flow-moved : (net : Net) (arriving : ℕ → ℕ → ℕ) (shown : ℕ → �
 flow-moved net arriving shown = record {
   first = past-none net arriving shown 0;
   next = λ x. record { kept = past-kept net arriving shown x; next = past-next net arriving shown x };
-  most = λ x l h. discharge_to-most net (shown x) (cumulative_under net arriving shown x) x l (link_at net l).to;
+  most = λ x l h. discharge_to-most net shown (cumulative_under net arriving shown x) x l (link_at net l).to;
 }
 
 grows-step : (net : Net) (m : Moves) (x : ℕ) (before after : ℕ → ℕ → Cumulative) → Continues net m x before after → IsSound net before x

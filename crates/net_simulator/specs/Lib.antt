@@ -1,3 +1,4 @@
+pub mod LinkGreens
 pub mod Flow
 pub mod Sums
 pub mod Moves

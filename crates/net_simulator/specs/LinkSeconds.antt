@@ -1,26 +1,28 @@
 -- What a second is at a link, by what a world keeps: a number for each link, or a row of 128 seconds for each.
-use Rattle.std.specs.Prelude.{ℕ, ◌+◌, ◌-◌, ◌≤◌, ◌==◌, nat_lt, Bool, false, not, ◌&&◌, if◌then◌else◌, List, map, slice_index}
+use Rattle.std.specs.Prelude.{◌≡◌, ℕ, ◌+◌, ◌-◌, ◌<◌, nat_le, nat_lt, Bool, not, ◌&&◌, if◌then◌else◌, List, Some, length, map, slice_index, slice_index_or}
 use Rattle.std.specs.List.{range_with_len}
-use Rattle.phase_plan.specs.Phases.{phase_at}
 use Rattle.net_parts.specs.Numbers.{Net}
 use Rattle.net_parts.specs.Outline.{link_at, plan_at}
 use Rattle.road_net.specs.declared.senses.LinkSense.{LinkSense}
 use Rattle.control_flow.specs.declared.greens.Sign.{Sign}
-use Rattle.control_flow.specs.declared.greens.Sign.TheVariants.{Change, Dark, On}
+use Rattle.control_flow.specs.declared.greens.Sign.TheVariants.{Dark}
 use Rattle.net_simulator.specs.Flow.{is_lost}
+use Rattle.net_simulator.specs.LinkGreens.{lit_on, loss_of}
 use Rattle.net_simulator.specs.Rows.{cell, kept_seconds}
 
--- the green of a sign began by this second, if it shows one
-abbrev pub HasBegun : ℕ → Sign → Type 0
-HasBegun second (On phase since) = since ≤ second
-HasBegun second (Change from to) = Unit {0}
-HasBegun second Dark = Unit {0}
+-- Each link has the second since which it is green, or `never`, under the signs that the nodes had before second x: where nothing changes, it
+-- has the same after second x.
+abbrev pub AreLit : Net → ℕ → List Sign → List ℕ → Type 0
+AreLit net x signs since =
+    (l node : ℕ) → l < length net.link_names → (link_at net l).to ≡ Some node
+    → slice_index since l ≡ lit_on net l x (slice_index_or signs node Dark) (slice_index since l)
 
--- whether link l of a node may discharge in second x under this sign, where `waits` has the queues after each second
-abbrev pub is_open : Net → List ℕ → ℕ → ℕ → ℕ → Sign → Bool
-is_open net waits x l node (On phase since) = (phase == (link_at net l).phase) && not (is_lost (phase_at (plan_at net node) phase).loss since x (cell waits l since))
-is_open net waits x l node (Change from to) = false
-is_open net waits x l node Dark = false
+-- whether link l of a node may discharge in second x under this sign, where `waits` has the queues after each second, and `since` the second
+-- since which each link is green
+abbrev pub is_open : Net → List ℕ → List ℕ → ℕ → ℕ → ℕ → Sign → Bool
+is_open net waits since x l node sign =
+    let from = slice_index since l in
+    nat_le from x && not (is_lost (loss_of (plan_at net node) sign) from x (cell waits l from))
 
 -- what waits at the end of link l: its queue, and what entered it one travel time ago
 abbrev pub waits_at : Net → List ℕ → List ℕ → ℕ → ℕ → ℕ

@@ -1,5 +1,5 @@
 -- What the code does in one second of the world, by what it keeps. No public clause names these words.
-use Rattle.std.specs.Prelude.{ℕ, ◌+◌, ◌*◌, ◌≤◌, min, if◌then◌else◌, List, Option, Some, None, length, slice_index, slice_index_or}
+use Rattle.std.specs.Prelude.{◌≡◌, ℕ, ◌+◌, ◌*◌, ◌≤◌, min, if◌then◌else◌, List, Option, Some, None, length, slice_index, slice_index_or}
 use Rattle.net_parts.specs.Limits.{most_of_all}
 use Rattle.net_parts.specs.Numbers.{Net}
 use Rattle.net_parts.specs.Outline.{link_at}
@@ -8,12 +8,13 @@ use Rattle.control_flow.specs.declared.greens.Sign.TheVariants.{Dark}
 use Rattle.road_net.specs.Totals.{total}
 use Rattle.net_simulator.specs.LinkSeconds.{is_open}
 use Rattle.net_simulator.specs.Sums.{outward}
+use Rattle.net_simulator.specs.Worlds.{Stands, WorldState}
 use Rattle.net_simulator.specs.declared.totals.LinkTotals.{LinkTotals}
 
 -- what link l discharges of what waits at its end
-abbrev pub goes : Net → List Sign → List ℕ → ℕ → ℕ → ℕ → Option ℕ → ℕ
-goes net signs waits x l waiting None = waiting
-goes net signs waits x l waiting (Some node) = if is_open net waits x l node (slice_index_or signs node Dark) then min (link_at net l).sat waiting else 0
+abbrev pub goes : Net → List Sign → List ℕ → List ℕ → ℕ → ℕ → ℕ → Option ℕ → ℕ
+goes net signs since waits x l waiting None = waiting
+goes net signs since waits x l waiting (Some node) = if is_open net waits since x l node (slice_index_or signs node Dark) then min (link_at net l).sat waiting else 0
 
 -- what leaves the network, where links discharge this
 abbrev pub goes_out : Net → List ℕ → ℕ
@@ -32,3 +33,22 @@ pub record FitsSeconds (n : ℕ) (t : LinkTotals) : Type 0 where
   pub entered : t.entered ≤ n * most_of_all
   pub left : t.left ≤ n * most_of_all
   pub delay : t.delay ≤ n * most_of_all
+
+-- The world has looked at the lights of its second: its signs and greens are of this second already, and all else that it keeps is what it
+-- was before, with other signs and greens.
+pub record IsLookedAt (net : Net) (arriving : ℕ → ℕ → ℕ) (shown : ℕ → ℕ → Sign) (w : WorldState) : Type 0 where
+  pub long : length w.signs ≡ length net.node_names
+  pub many : length w.since ≡ length net.link_names
+  pub signs : List Sign
+  pub since : List ℕ
+  pub stands : Stands net arriving shown (record {
+    second = w.second;
+    signs = signs;
+    since = since;
+    queues = w.queues;
+    recent = w.recent;
+    waits = w.waits;
+    stood = w.stood;
+    counts = w.counts;
+    totals = w.totals;
+  })

@@ -5,10 +5,12 @@ use Rattle.net_parts.specs.Numbers.{Net}
 use Rattle.control_flow.specs.declared.greens.Green.{Green}
 use Rattle.control_flow.specs.Signs.{sign_at}
 use Rattle.control_flow.specs.declared.greens.Sign.{Sign}
+use Rattle.control_flow.specs.declared.greens.Sign.TheVariants.{Dark}
 use Rattle.net_simulator.specs.Flow.{Cumulative, queue, cumulative_under}
 use Rattle.arrivals.specs.Amounts.{Amounts, AreArrivals, arriving_of}
 use Rattle.net_simulator.specs.Sums.{link_totals, totals}
 use Rattle.net_simulator.specs.Rows.{cell, kept_seconds}
+use Rattle.net_simulator.specs.LinkGreens.{is_green, last_sign, lit_since}
 use Rattle.net_simulator.specs.Counts.{counts_at}
 use Rattle.net_simulator.specs.Senses.{stood}
 use Rattle.net_simulator.specs.declared.totals.LinkTotals.{LinkTotals}
@@ -22,11 +24,12 @@ line_in lines node = slice_index_or lines node []
 abbrev pub signs_by : (ℕ → List Green) → ℕ → ℕ → Sign
 signs_by lines x node = sign_at (lines node) x
 
--- what a world keeps: its second, how many nodes its network has, and for each link its queue, rows of what entered it and of
--- its queues, for how long a queue has stood, and what is counted
+-- what a world keeps: its second, the last sign of each node, and for each link since when it is green, its queue, rows of what
+-- entered it and of its queues, for how long a queue has stood, and what is counted
 pub record WorldState : Type 0 where
   pub second : ℕ
-  pub nodes : ℕ
+  pub signs : List Sign
+  pub since : List ℕ
   pub queues : List ℕ
   pub recent : List ℕ
   pub waits : List ℕ
@@ -36,7 +39,8 @@ pub record WorldState : Type 0 where
 
 -- it has a place for each node and link
 pub record HasShape (net : Net) (w : WorldState) : Type 0 where
-  pub nodes : w.nodes ≡ length net.node_names
+  pub signs : length w.signs ≡ length net.node_names
+  pub since : length w.since ≡ length net.link_names
   pub queues : length w.queues ≡ length net.link_names
   pub recent : length w.recent ≡ length net.link_names * kept_seconds
   pub waits : length w.waits ≡ length net.link_names * kept_seconds
@@ -50,6 +54,11 @@ pub record Keeps (net : Net) (past : ℕ → ℕ → Cumulative) (qs rs ws : Lis
   pub recent : (l d : ℕ) → l < length net.link_names → 1 ≤ d → d ≤ most_travel → cell rs l (x + kept_seconds - d) ≡ (past (x + 1 - d) l).entered - (past (x - d) l).entered
   pub waits : (l d : ℕ) → l < length net.link_names → d ≤ most_travel → cell ws l (x + kept_seconds - d) ≡ queue net past (x - d) l
 
+-- What is kept of lights is what the nodes showed in the first x seconds: the last sign of each node, and since when each link is green.
+pub record AreShown (net : Net) (shown : ℕ → ℕ → Sign) (x : ℕ) (last : List Sign) (lit : List ℕ) : Type 0 where
+  pub signs : (node : ℕ) → node < length net.node_names → slice_index_or last node Dark ≡ last_sign shown x node
+  pub since : (l : ℕ) → l < length net.link_names → slice_index lit l ≡ lit_since (is_green net shown l) x
+
 -- All that a world keeps is what the definition gives for a network, arrivals and what is shown over the seconds below its own.
 pub record Stands (net : Net) (arriving : ℕ → ℕ → ℕ) (shown : ℕ → ℕ → Sign) (w : WorldState) : Type 0 where
   pub shape : HasShape net w
@@ -58,6 +67,7 @@ pub record Stands (net : Net) (arriving : ℕ → ℕ → ℕ) (shown : ℕ → 
   pub counts : (l : ℕ) → l < length net.link_names → counts_at w.counts l ≡ link_totals net (cumulative_under net arriving shown w.second) w.second l
   pub totals : w.totals ≡ totals net arriving (cumulative_under net arriving shown w.second) w.second
   pub stood : (l : ℕ) → l < length net.link_names → slice_index w.stood l ≡ stood net (cumulative_under net arriving shown w.second) w.second l
+  pub lights : AreShown net shown w.second w.signs w.since
 
 -- a world stands for this network with some arrivals and timelines
 pub record IsWorldOf (net : Net) (w : WorldState) : Type 0 where

@@ -2,53 +2,145 @@
 //!
 //! They work on the slices that a world keeps, a number for each link, or a row of 128 seconds for each (`rows`).
 
-ghost use Rattle.std.specs.Prelude.{◌≡◌, ◌≢◌, ℕ, ◌*◌, ◌%◌, ◌≤◌, ◌<◌, ◌^◌, None, Some, length, slice_index, slice_index_or};
+ghost use Rattle.std.specs.Prelude.{◌≡◌, ◌≢◌, ◌↔◌, IsTrue, ℕ, ◌*◌, ◌%◌, ◌≤◌, ◌<◌, ◌^◌, None, Some, length, slice_index, slice_index_or};
 ghost use Rattle.net_parts.specs.Limits.{most_seconds};
 ghost use Rattle.control_flow.specs.Signs.{sign_at};
 ghost use Rattle.control_flow.specs.declared.greens.Sign.TheVariants.{Dark};
-ghost use Rattle.net_parts.specs.Outline.{link_at};
-ghost use Rattle.net_simulator.specs.LinkSeconds.{HasBegun, is_open, stands_on, waits_at};
+ghost use Rattle.net_parts.specs.Outline.{link_at, plan_at};
+ghost use Rattle.net_simulator.specs.LinkGreens.{is_lit, lit_on, loss_of};
+ghost use Rattle.net_simulator.specs.LinkSeconds.{AreLit, is_open, stands_on, waits_at};
 ghost use Rattle.net_simulator.specs.Rows.{cell, kept_seconds};
 ghost use Rattle.net_simulator.specs.Sums.{outward};
 
 use super::lights::Lights;
 use super::rows;
 use control_flow::greens::Sign;
-use road_net::Network;
+use road_net::{Network, law_of_network};
 
-/// Looks once at the light of each node: `signs` gets the signs of the nodes in this second, in their order.
+/// The signs of the nodes in a second, in their order, and the second since which each link is green; 2^32 - 1 for a link that is not.
 ///
 /// docs/RULES.md, "World".
-pub fn look<T: Lights>(signs: &mut [Sign], net: &Network, lights: &T, second: u32)
-    requires { length signs.old ≡ length net.now.node_names }
-    ensures { (n : ℕ) → n < length net.now.node_names
-        → slice_index_or signs.new n Dark ≡ sign_at (T.lines lights.now n) second }
+#[derive(Drop)]
+pub struct Shown<'a> {
+    /// The sign of each node.
+    pub signs: &'a [Sign],
+    /// The second since which each link is green.
+    pub since: &'a [u32],
+}
+
+/// Whether a link is green in a second in which the node at its end shows this sign.
+fn is_lit(net: &Network, l: u32, sign: Sign) -> bool
+    requires { l < length net.now.link_names }
+    ensures { result ≡ is_lit net.now l sign }
 {
-    for node in 0..net.nodes() {
-        signs[node as usize] = lights.sign(node, second);
+    match sign {
+        Sign::Dark => false,
+        Sign::On { phase, since: _ } => net.is_green(l, phase),
+        Sign::Change { from, to } => net.is_green(l, from) && net.is_green(l, to),
     }
 }
 
-/// Whether link `l` may discharge in this second, where its node shows this sign: the link's phase is green, and the second
-/// is not one that is lost at the begin of the green. `waits` has the queues of each link before each of the last seconds (`rows`).
+/// The second since which a link is green in a second in which the node at its end shows this sign, where it has been so since `since`.
+fn lit_on(net: &Network, l: u32, second: u32, sign: Sign, since: u32) -> u32
+    requires { l < length net.now.link_names }
+    ensures { result ≡ lit_on net.now l second sign since }
+{
+    if is_lit(net, l, sign) {
+        since.min(second)
+    } else {
+        u32::MAX
+    }
+}
+
+/// Notes since when the links that end at a node are green, where the node shows this sign in this second.
+fn light(since: &mut [u32], net: &Network, node: u32, sign: Sign, second: u32)
+    requires node { node < length net.now.node_names }
+    requires since { length since.old ≡ length net.now.link_names }
+    ensures here { (l : ℕ) → l < length net.now.link_names → (link_at net.now l).to ≡ Some node
+        → slice_index since.new l ≡ lit_on net.now l second sign (slice_index since.old l) }
+    ensures others { (l : ℕ) → l < length net.now.link_names → (link_at net.now l).to ≢ Some node
+        → slice_index since.new l ≡ slice_index since.old l }
+{
+    for &l in net.entry_links(node) {
+        let place = l as usize;
+        since[place] = lit_on(net, l, second, sign, since[place]);
+    }
+}
+
+/// Whether two signs are the same.
+fn is_same(one: Sign, other: Sign) -> bool
+    ensures { IsTrue result ↔ one ≡ other }
+{
+    one == other
+}
+
+/// Looks once at the light of each node: `signs` gets the signs of the nodes in this second, in their order, and `since` the second
+/// since which each link is green. Only at a node whose sign has changed links are looked at.
+///
+/// docs/RULES.md, "World".
+pub fn look<T: Lights>(
+    signs: &mut [Sign],
+    since: &mut [u32],
+    net: &Network,
+    lights: &T,
+    second: u32,
+)
+    requires signs { length signs.old ≡ length net.now.node_names }
+    requires since { length since.old ≡ length net.now.link_names }
+    requires lit { AreLit net.now second signs.old since.old }
+    ensures signs { (n : ℕ) → n < length net.now.node_names
+        → slice_index_or signs.new n Dark ≡ sign_at (T.lines lights.now n) second }
+    ensures since { (l node : ℕ) → l < length net.now.link_names → (link_at net.now l).to ≡ Some node
+        → slice_index since.new l ≡
+        lit_on net.now l second (sign_at (T.lines lights.now node) second) (slice_index since.old l) }
+    ensures none { (l : ℕ) → l < length net.now.link_names → (link_at net.now l).to ≡ None
+        → slice_index since.new l ≡ slice_index since.old l }
+{
+    for node in 0..net.nodes() {
+        let sign = lights.sign(node, second);
+        if !is_same(signs[node as usize], sign) {
+            signs[node as usize] = sign;
+            light(since, net, node, sign, second);
+        }
+    }
+}
+
+/// The seconds that a green loses where its node shows this sign.
+fn loss_of(net: &Network, node: u32, sign: Sign) -> u32
+    requires { node < length net.now.node_names }
+    ensures { result ≡ loss_of (plan_at net.now node) sign }
+{
+    let phase = match sign {
+        Sign::Dark => return 0,
+        Sign::On { phase, since: _ } => phase,
+        Sign::Change { from, to: _ } => from,
+    };
+    match net.plan(node).phases().get(phase as usize) {
+        Some(p) => p.loss,
+        None => 0,
+    }
+}
+
+/// Whether link `l` may discharge in this second, by what is shown: it is green, and the second is not one that is lost at the
+/// begin of the green. `waits` has the queues of each link before each of the last seconds (`rows`).
 ///
 /// docs/RULES.md, "World".
 #[inline]
-pub fn is_open(net: &Network, waits: &[u32], second: u32, l: u32, node: u32, sign: Sign) -> bool
+pub fn is_open(net: &Network, waits: &[u32], shown: &Shown, second: u32, l: u32, node: u32) -> bool
     requires link { l < length net.now.link_names }
     requires node { (link_at net.now l).to ≡ Some node }
     requires waits { length waits.now ≡ length net.now.link_names * kept_seconds }
-    requires begun { HasBegun second sign }
-    ensures { result ≡ is_open net.now waits.now second l node sign }
+    requires signs { length shown.now.signs.now ≡ length net.now.node_names }
+    requires since { length shown.now.since.now ≡ length net.now.link_names }
+    ensures { result ≡
+        is_open net.now waits.now shown.now.since.now second l node (slice_index_or shown.now.signs.now node Dark) }
 {
-    let Sign::On { phase, since } = sign else {
-        return false;
-    };
-    if phase != net.link(l).phase {
+    law_of_network(net);
+    let from = shown.since[l as usize];
+    if from > second {
         return false;
     }
-    let loss = net.plan(node).phase(phase).loss;
-    second - since >= loss || rows::at(waits, l, since) == 0
+    second - from >= loss_of(net, node, shown.signs[node as usize]) || rows::at(waits, l, from) == 0
 }
 
 /// What waits at the end of link `l` in a second below 18,000, in thousandths of a vehicle: its queue, and what entered it one

@@ -5,19 +5,17 @@ ghost use Rattle.net_parts.specs.Limits.{most_seconds};
 ghost use Rattle.net_parts.specs.Outline.{link_at, turns_at};
 ghost use Rattle.arrivals.specs.Amounts.{arriving_of};
 ghost use Rattle.net_simulator.specs.Counts.{counts_at};
-ghost use Rattle.net_simulator.specs.LinkSeconds.{HasBegun, waits_at};
-ghost use Rattle.control_flow.specs.declared.greens.Sign.TheVariants.{Dark};
+ghost use Rattle.net_simulator.specs.LinkSeconds.{waits_at};
 ghost use Rattle.net_simulator.specs.Rows.{cell, kept_seconds};
 ghost use Rattle.net_simulator.specs.Steps.{goes, goes_out, all_of, counted, FitsSeconds};
 ghost use Rattle.net_simulator.specs.Sums as sums;
 ghost use Rattle.road_net.specs.Joins.{split_of};
 ghost use Rattle.road_net.specs.Totals.{total};
 
-use super::link_seconds::{is_open, outward, waiting_amount};
+use super::link_seconds::{Shown, is_open, outward, waiting_amount};
 use super::rows;
 use super::totals::LinkTotals;
 use arrivals::Arrivals;
-use control_flow::greens::Sign;
 use road_net::Network;
 
 /// What amounts that begin with that of link `first` have of link `l`; 0 where they have none.
@@ -52,13 +50,13 @@ pub(crate) fn arrive(recent: &mut [u32], links: u32, arrivals: &Arrivals, second
 }
 
 /// What link `l` discharges in this second of what waits at its end.
-fn goes(net: &Network, waits: &[u32], second: u32, l: u32, waiting: u32, signs: &[Sign]) -> u32
+fn goes(net: &Network, waits: &[u32], shown: &Shown, second: u32, l: u32, waiting: u32) -> u32
     requires link { l < length net.now.link_names }
-    requires signs { length signs.now ≡ length net.now.node_names }
-    requires begun { (n : ℕ) → n < length net.now.node_names
-        → HasBegun second (slice_index_or signs.now n Dark) }
+    requires signs { length shown.now.signs.now ≡ length net.now.node_names }
+    requires since { length shown.now.since.now ≡ length net.now.link_names }
     requires waits { length waits.now ≡ length net.now.link_names * kept_seconds }
-    ensures value { result ≡ goes net.now signs.now waits.now second l waiting (link_at net.now l).to }
+    ensures value { result ≡
+        goes net.now shown.now.signs.now shown.now.since.now waits.now second l waiting (link_at net.now l).to }
     ensures most { result ≤ waiting }
 {
     if waiting == 0 {
@@ -68,7 +66,7 @@ fn goes(net: &Network, waits: &[u32], second: u32, l: u32, waiting: u32, signs: 
     let Some(node) = link.to else {
         return waiting;
     };
-    if is_open(net, waits, second, l, node, signs[node as usize]) {
+    if is_open(net, waits, shown, second, l, node) {
         waiting.min(link.sat)
     } else {
         0
@@ -82,27 +80,26 @@ pub(crate) fn leave(
     net: &Network,
     recent: &[u32],
     waits: &[u32],
-    signs: &[Sign],
+    shown: &Shown,
     second: u32,
 )
     requires leaving { length leaving.old ≡ length net.now.link_names }
     requires queues { length queues.old ≡ length net.now.link_names }
     requires recent { length recent.now ≡ length net.now.link_names * kept_seconds }
     requires waits { length waits.now ≡ length net.now.link_names * kept_seconds }
-    requires signs { length signs.now ≡ length net.now.node_names }
-    requires begun { (n : ℕ) → n < length net.now.node_names
-        → HasBegun second (slice_index_or signs.now n Dark) }
+    requires signs { length shown.now.signs.now ≡ length net.now.node_names }
+    requires since { length shown.now.since.now ≡ length net.now.link_names }
     requires second { second < most_seconds }
     requires fits { (l : ℕ) → l < length net.now.link_names → waits_at net.now queues.old recent.now second l < 2 ^ 32 }
     ensures leaving { (l : ℕ) → l < length net.now.link_names → slice_index leaving.new l ≡
-        goes net.now signs.now waits.now second l (waits_at net.now queues.old recent.now second l)
-        (link_at net.now l).to }
+        goes net.now shown.now.signs.now shown.now.since.now waits.now second l
+        (waits_at net.now queues.old recent.now second l) (link_at net.now l).to }
     ensures queues { (l : ℕ) → l < length net.now.link_names → slice_index queues.new l ≡
         waits_at net.now queues.old recent.now second l - slice_index leaving.new l }
 {
     for l in 0..net.links() {
         let waiting = waiting_amount(net, queues, recent, second, l);
-        let amount = goes(net, waits, second, l, waiting, signs);
+        let amount = goes(net, waits, shown, second, l, waiting);
         leaving[l as usize] = amount;
         queues[l as usize] = waiting - amount;
     }

@@ -1,6 +1,6 @@
 //! The world.
 
-ghost use Rattle.std.specs.Prelude.{◌≡◌, ℕ, ◌+◌, ◌≤◌, ◌<◌, IfOk, List, length, replicate, slice_index_or};
+ghost use Rattle.std.specs.Prelude.{◌≡◌, ℕ, ◌+◌, ◌≤◌, ◌<◌, IfOk, List, length, replicate, slice_index, slice_index_or};
 ghost use Rattle.net_parts.specs.Limits.{most_seconds};
 ghost use Rattle.arrivals.specs.Amounts.{Amounts, AreArrivals, arriving_of};
 ghost use Rattle.control_flow.specs.declared.greens.Green.{Green};
@@ -10,15 +10,17 @@ ghost use Rattle.control_flow.specs.declared.greens.Sign.TheVariants.{Dark};
 ghost use Rattle.net_parts.specs.Numbers.{Net};
 ghost use Rattle.net_simulator.specs.Counts.{counts_at, no_totals, IsBalanced};
 ghost use Rattle.net_simulator.specs.Flow.{cumulative_under};
+ghost use Rattle.net_simulator.specs.LinkGreens.{is_green, lit_since};
 ghost use Rattle.net_simulator.specs.Senses.{near_on, sense};
+ghost use Rattle.net_simulator.specs.Steps.{IsLookedAt};
 ghost use Rattle.net_simulator.specs.Worlds.{WorldState, Stands, IsWorldOf, signs_by};
 ghost use Rattle.road_net.specs.Senses.{IsSensedOf};
 
 use super::lights::Lights;
-use super::link_seconds::{look, remember};
+use super::link_seconds::{Shown, look, remember};
 use super::seconds;
 use super::sensing::{Sight, near_amount, sense_links};
-use super::starts::{no_signs, zeros};
+use super::starts::{no_greens, no_signs, zeros};
 use super::totals::{LinkTotals, Totals};
 use arrivals::Arrivals;
 use control_flow::greens::Sign;
@@ -42,6 +44,7 @@ pub struct World {
     waits: Vec<u32>,
     stood: Vec<u32>,
     signs: Vec<Sign>,
+    since: Vec<u32>,
     leaving: Vec<u32>,
     counts: Vec<LinkTotals>,
     totals: Totals,
@@ -56,7 +59,8 @@ impl Model for World {
 
     ghost view = { λ w. record {
       second = w.second;
-      nodes = length w.signs.items;
+      signs = w.signs.items;
+      since = w.since.items;
       queues = w.queues.items;
       recent = w.recent.items;
       waits = w.waits.items;
@@ -89,6 +93,7 @@ impl World {
         let leaving = zeros(alloc, links)?;
         let counts = no_counts(alloc, links)?;
         let signs = no_signs(alloc, net.nodes() as usize)?;
+        let since = no_greens(alloc, links)?;
         Ok(World {
             second: 0,
             queues,
@@ -96,6 +101,7 @@ impl World {
             waits,
             stood,
             signs,
+            since,
             leaving,
             counts,
             totals: Totals {
@@ -242,12 +248,20 @@ impl World {
         ensures second { self.new.second ≡ self.old.second + 1 }
         ensures stands { Stands net.now (arriving_of arrivals.now) (signs_by (T.lines lights.now)) self.new }
     {
+        law_of_network(net);
         let x = self.second;
-        look(self.signs.as_mut_slice(), net, lights, x);
+        look(
+            self.signs.as_mut_slice(),
+            self.since.as_mut_slice(),
+            net,
+            lights,
+            x,
+        );
         let moment = Moment {
             net,
             lights,
             signs: self.signs.as_slice(),
+            since: self.since.as_slice(),
             arrivals,
             totals: self.totals,
             second: x,
@@ -272,6 +286,7 @@ struct Moment<'a, T> {
     net: &'a Network,
     lights: &'a T,
     signs: &'a [Sign],
+    since: &'a [u32],
     arrivals: &'a Arrivals,
     totals: Totals,
     second: u32,
@@ -291,11 +306,16 @@ fn pass_second<T: Lights>(
     requires leaving { length leaving.old ≡ length queues.old }
     requires arrivals { AreArrivals moment.now.net.now moment.now.arrivals.now }
     requires signs { (n : ℕ) → n < length moment.now.net.now.node_names
-        → slice_index_or moment.now.signs.now n Dark ≡ sign_at (T.lines moment.now.lights.now n) moment.now.second }
-    requires stands { Stands moment.now.net.now (arriving_of moment.now.arrivals.now)
+        → slice_index_or moment.now.signs.now n Dark ≡
+        sign_at (T.lines moment.now.lights.now n) moment.now.second }
+    requires since { (l : ℕ) → l < length moment.now.net.now.link_names
+        → slice_index moment.now.since.now l ≡
+        lit_since (is_green moment.now.net.now (signs_by (T.lines moment.now.lights.now)) l) (moment.now.second + 1) }
+    requires stands { IsLookedAt moment.now.net.now (arriving_of moment.now.arrivals.now)
         (signs_by (T.lines moment.now.lights.now)) (record {
           second = moment.now.second;
-          nodes = length moment.now.signs.now;
+          signs = moment.now.signs.now;
+          since = moment.now.since.now;
           queues = queues.old;
           recent = recent.old;
           waits = waits.old;
@@ -307,7 +327,8 @@ fn pass_second<T: Lights>(
     ensures stands { Stands moment.now.net.now (arriving_of moment.now.arrivals.now)
         (signs_by (T.lines moment.now.lights.now)) (record {
           second = moment.now.second + 1;
-          nodes = length moment.now.signs.now;
+          signs = moment.now.signs.now;
+          since = moment.now.since.now;
           queues = queues.new;
           recent = recent.new;
           waits = waits.new;
@@ -321,7 +342,11 @@ fn pass_second<T: Lights>(
     let totals = &moment.totals;
     let links = net.links();
     let arriving = seconds::arrive(recent, links, moment.arrivals, x);
-    seconds::leave(leaving, queues, net, recent, waits, moment.signs, x);
+    let shown = Shown {
+        signs: moment.signs,
+        since: moment.since,
+    };
+    seconds::leave(leaving, queues, net, recent, waits, &shown, x);
     let out = seconds::enter(recent, net, leaving, x);
     remember(waits, stood, queues, links, x + 1);
     let waiting = seconds::count(counts, recent, leaving, queues, links, x);

@@ -35,7 +35,8 @@ use Rattle.runs.specs.Ending.{records_in}
 use Rattle.runs.specs.Resting.{HasPlans, Rests, lines_of}
 use Rattle.node_rounds.specs.Rounds.{AreCallsIn, AreSamePasses, Between, CanAllPlay, HaveAllPlayed, HaveLeft}
 use Rattle.node_rounds.proofs.Passes.{at-most-highest, calls-at, calls-past, no_pass, own-at, own-same, raised-at, raised-calls, raised-names}
-use Rattle.runs.proofs.Resting.{before-shows, before-stands, no_acting, no_commitment, sense-is, stands-same}
+use Rattle.runs.proofs.Resting.{before-shows, before-stands, no_acting, no_commitment, sense-is}
+use Rattle.net_simulator.proofs.AtNodes.{stands-at-nodes}
 use Rattle.runs.proofs.PlanLists.{next-room, plans-next, plans-same}
 use Rattle.intersection_actor.proofs.RoundLaws.{of-without}
 use Rattle.node_rounds.proofs.Told.{in-moved}
@@ -312,7 +313,7 @@ module _ (net : Net) (network : IsNetwork net) (arrivals : Amounts) (round : ℕ
       shown-before x m less = ap (λ (c : Commitment). sign_at c.line x) (made-else (x / net.run.step) m (div_below x net.run.step round network.outline.run.step.0 less))
 
       pub over-before : Stands net (arriving_of arrivals) (signs_by (lines_of acted)) world
-      over-before = stands-same net network (arriving_of arrivals) (shown_by net b.made) (signs_by (lines_of acted)) world
+      over-before = stands-at-nodes net network (arriving_of arrivals) (shown_by net b.made) (signs_by (lines_of acted)) world
           (λ x n less below. shown-before x n (omega (arith, b.second)) ∙ sym (lines-show x n (omega (arith, next-second, b.second)) below)) b.stands
 
       -- so the next round can begin
@@ -327,7 +328,7 @@ module _ (net : Net) (network : IsNetwork net) (arrivals : Amounts) (round : ℕ
             most = omega arith;
             commits = commits;
             second = now;
-            stands = stands-same net network (arriving_of arrivals) (signs_by (lines_of acted)) (shown_by net made) moved (λ x n less below. lines-show x n (omega arith) below) stands;
+            stands = stands-at-nodes net network (arriving_of arrivals) (signs_by (lines_of acted)) (shown_by net made) moved (λ x n less below. lines-show x n (omega arith) below) stands;
             all = length-map acted without_records ∙ played.actors ∙ b.all;
             rests = rests;
             planned = plans-next net heard made round plans before-planned acted (played.actors ∙ b.all) records-own next added grown;

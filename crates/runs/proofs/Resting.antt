@@ -12,17 +12,15 @@ use Rattle.intersection_actor.specs.Rounds.{IsNew, IsOf}
 use Rattle.intersection_actor.specs.declared.records.Want.TheVariants.{Done}
 use Rattle.net_parts.specs.Numbers.{Net}
 use Rattle.net_simulator.specs.Flow.{Cumulative, cumulative_under}
-use Rattle.net_simulator.specs.Senses.{sense, stood}
-use Rattle.net_simulator.specs.Sums.{link_totals, totals}
-use Rattle.net_simulator.specs.Worlds.{Keeps, WorldState, Stands, signs_by}
+use Rattle.net_simulator.specs.Senses.{sense}
+use Rattle.net_simulator.specs.Worlds.{WorldState, Stands, signs_by}
 use Rattle.road_net.specs.Network.{IsNetwork}
 use Rattle.signal_safety.proofs.Rounds.{shows}
 use Rattle.runs.specs.Runs.{AllCommit, line_before, sensed_in, shown_by}
 use Rattle.runs.proofs.Keep.{all-keep}
-use Rattle.net_simulator.proofs.AtNodes.{past-at-nodes}
+use Rattle.net_simulator.proofs.AtNodes.{past-at-nodes, stands-at-nodes}
 use Rattle.schedule_meaning.specs.declared.planners.Answer.TheVariants.{NoPlan}
 use Rattle.runs.specs.Resting.{AreNew, Rests}
-use Rattle.control_flow.specs.declared.greens.Sign.{Sign}
 
 -- some actor, and some commit, where there is none
 abbrev pub no_acting : Acting
@@ -40,27 +38,13 @@ no_commitment = record {
   line = [];
 }
 
--- a world counts what is shown only at the nodes of the network, and before its second
-pub stands-same : (net : Net) → IsNetwork net → (arriving : ℕ → ℕ → ℕ) (shown seen : ℕ → ℕ → Sign) (w : WorldState)
-    → ((x node : ℕ) → x < w.second → node < length net.node_names → shown x node ≡ seen x node) → Stands net arriving shown w → Stands net arriving seen w
-stands-same net network arriving shown seen w same s =
-    let e : cumulative_under net arriving shown w.second ≡ cumulative_under net arriving seen w.second = past-at-nodes net network arriving shown seen w.second same in
-    record {
-      shape = s.shape;
-      by = s.by;
-      keeps = subst (λ (p : ℕ → ℕ → Cumulative). Keeps net p w.queues w.recent w.waits w.second) e s.keeps;
-      counts = λ l below. s.counts l below ∙ ap (λ (p : ℕ → ℕ → Cumulative). link_totals net p w.second l) e;
-      totals = s.totals ∙ ap (λ (p : ℕ → ℕ → Cumulative). totals net arriving p w.second) e;
-      stood = λ l below. s.stood l below ∙ ap (λ (p : ℕ → ℕ → Cumulative). stood net p w.second l) e;
-    }
-
 -- the lines before a round show what the world moved by
 module _ (net : Net) (network : IsNetwork net) (arriving : ℕ → ℕ → ℕ) (round : ℕ) (heard : ℕ → ℕ → List Heard) (made : ℕ → ℕ → Commitment) (most : round ≤ net.run.rounds) (commits : AllCommit net arriving heard made round) where
   pub before-shows : (x node : ℕ) → x < round * net.run.step → node < length net.node_names → sign_at (line_before net made round node) x ≡ shown_by net made x node
   before-shows x node less below = shows net network (line_before net made) round (all-keep net network arriving heard made round most commits) round (omega arith) x node below (div_below x net.run.step round network.outline.run.step.0 less)
 
   pub before-stands : (world : WorldState) → world.second ≡ round * net.run.step → Stands net arriving (shown_by net made) world → Stands net arriving (signs_by (line_before net made round)) world
-  before-stands world second stands = stands-same net network arriving (shown_by net made) (signs_by (line_before net made round)) world
+  before-stands world second stands = stands-at-nodes net network arriving (shown_by net made) (signs_by (line_before net made round)) world
       (λ x node less below. sym (before-shows x node (omega (arith, second)) below)) stands
 
   -- what a node senses of such a world

@@ -59,7 +59,7 @@ out-in : (to : Option ℕ) (a w on : ℕ) → a ≤ w → w ≤ on → inward to
 out-in None a w on less there = omega arith
 out-in (Some node) a w on less there = omega arith
 
-module _ (net : Net) (network : IsNetwork net) (shown : ℕ → Sign) (past : ℕ → ℕ → Cumulative) (x : ℕ) (sound : IsSound net past x) (few : on_road net past x ≤ 2000000000) (travels : (l : ℕ) → l < length net.link_names → 1 ≤ (link_at net l).travel) where
+module _ (net : Net) (network : IsNetwork net) (shown : ℕ → ℕ → Sign) (past : ℕ → ℕ → Cumulative) (x : ℕ) (sound : IsSound net past x) (few : on_road net past x ≤ 2000000000) (travels : (l : ℕ) → l < length net.link_names → 1 ≤ (link_at net l).travel) where
   abbrev n : ℕ
   n = length net.link_names
 
@@ -174,7 +174,7 @@ module _ (net : Net) (network : IsNetwork net) (shown : ℕ → Sign) (past : �
         let there = room-for m m node wish (get_or (turns_at net m) i t).exit d whole inside (omega arith) exit.0 (exit-other m node (get_or (turns_at net m) i t).exit inside to exit.1 exit.0) to (omega arith)
         (part-most m node wish (get_or (turns_at net m) i t).exit inside to exit.0) in
         omega (arith, there, wide (get_or (turns_at net m) i t).exit exit.0)) in
-        ap (λ a. cond (may_go net past x m node (shown node)) a 0) (greatest-all (has_room (turns_at net m) (λ e. store e - held m e)) wish fits)
+        ap (λ a. cond (may_go net shown past x m node) a 0) (greatest-all (has_room (turns_at net m) (λ e. store e - held m e)) wish fits)
 
     -- so all discharge what they would without bounds
     pub goes-all : (m d : ℕ) → m + d ≡ n → goes_of net store shown past x m ≡ first m

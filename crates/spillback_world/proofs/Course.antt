@@ -78,7 +78,7 @@ module _ (net : Net) (network : IsNetwork net) (arriving : ℕ → ℕ → ℕ) 
   moves = moves_by net (stored_moves net arriving store shown)
 
   abbrev begin : ℕ → Opening
-  begin x = opening net (shown x) (cumulative_by net (stored_moves net arriving store shown) x) x
+  begin x = opening net shown (cumulative_by net (stored_moves net arriving store shown) x) x
 
   pub course : AreMoved net (moves_by net (stored_moves net arriving store shown)) (cumulative_by net (stored_moves net arriving store shown))
   course = rule-moved net (stored_moves net arriving store shown) (λ x l h. goes-most net store (begin x) (length net.link_names) l)

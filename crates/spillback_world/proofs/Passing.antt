@@ -6,18 +6,20 @@ use Rattle.road_net.specs.Joins.{split_of}
 use Rattle.road_net.specs.Network.{IsNetwork}
 use Rattle.road_net.specs.Totals.{total}
 use Rattle.road_net.proofs.TotalLaws.{total-same, total-le, total-swap, total-zero}
-use Rattle.net_simulator.specs.Flow.{Cumulative, queue, waiting, may_go}
-use Rattle.net_simulator.specs.LinkSeconds.{HasBegun, stands_on, waits_at}
+use Rattle.net_simulator.specs.Flow.{Cumulative, queue, waiting}
+use Rattle.net_simulator.specs.LinkSeconds.{is_open, stands_on, waits_at}
+use Rattle.net_simulator.specs.LinkGreens.{is_green, last_sign, lit_since}
 use Rattle.net_simulator.specs.Moves.{Moves}
 use Rattle.net_simulator.specs.Rows.{cell}
 use Rattle.net_simulator.specs.Senses.{stood}
 use Rattle.net_simulator.specs.Sums.{AreFew, total_left, outward}
-use Rattle.net_simulator.specs.Worlds.{Keeps}
+use Rattle.net_simulator.specs.Worlds.{AreShown, Keeps}
 use Rattle.net_simulator.proofs.Conserving.{come, grown, left-entered}
 use Rattle.net_simulator.proofs.EveryWorld.{are-sound, bounds-of, gone-more, queue-still, queues-most}
 use Rattle.net_simulator.proofs.Keeping.{keeps-next, kept-queue, open-same, waits-same}
 use Rattle.net_simulator.proofs.MoveLaws.{moves_by, cumulative_by}
 use Rattle.net_simulator.proofs.Outside.{comes-none, comes-within, few-come, only-comes}
+use Rattle.net_simulator.proofs.Passing.{lights-parts}
 use Rattle.net_simulator.proofs.Sound.{AreMoved, Continues, IsSound, next-one}
 use Rattle.net_simulator.proofs.Standing.{stood-kept, stood-most, stood-next}
 use Rattle.net_simulator.proofs.Sums.{total-most, total-of, total-part}
@@ -47,9 +49,9 @@ same-totals s t a b c d e = λ i. record { entered = a i; left = b i; on = c i; 
 -- a world that stands, by lists that are those that it keeps
 pub stands-seen : (net : Net) (arriving : ℕ → ℕ → ℕ) (store : ℕ → ℕ) (shown : ℕ → ℕ → Sign) (w : SpillState) (qs rs ws ss os hs : List ℕ)
     → qs ≡ w.queues → rs ≡ w.recent → ws ≡ w.waits → ss ≡ w.stood → os ≡ w.outside → hs ≡ w.held → Stands net arriving store shown w
-    → Stands net arriving store shown (record { second = w.second; nodes = w.nodes; queues = qs; recent = rs; waits = ws; stood = ss; outside = os; held = hs; totals = w.totals })
+    → Stands net arriving store shown (record { second = w.second; signs = w.signs; since = w.since; queues = qs; recent = rs; waits = ws; stood = ss; outside = os; held = hs; totals = w.totals })
 stands-seen net arriving store shown w qs rs ws ss os hs a b c d e f stands =
-    subst (Stands net arriving store shown) (λ i. record { second = w.second; nodes = w.nodes; queues = sym a i; recent = sym b i; waits = sym c i; stood = sym d i; outside = sym e i; held = sym f i; totals = w.totals }) stands
+    subst (Stands net arriving store shown) (λ i. record { second = w.second; signs = w.signs; since = w.since; queues = sym a i; recent = sym b i; waits = sym c i; stood = sym d i; outside = sym e i; held = sym f i; totals = w.totals }) stands
 
 out-none : (to : Option ℕ) (w q v : ℕ) → to ≡ None → v ≡ outward to w → q ≡ w - v → q ≡ 0
 out-none None w q v e goes queue = omega (arith, goes, queue)
@@ -73,12 +75,12 @@ entering-held net store queues entering held are l h = omega (arith, are.there l
 
 -- What has been done when the links discharge: the lists of what leaves, of the queues, of what enters and of what is held, and which
 -- links may discharge where the nodes show these signs.
-pub record IsBegun (net : Net) (w : SpillState) (signs : List Sign) (served : List Bool) (lv1 qs1 en1 hs1 : List ℕ) : Type 0 where
+pub record IsBegun (net : Net) (w : SpillState) (signs : List Sign) (since : List ℕ) (served : List Bool) (lv1 qs1 en1 hs1 : List ℕ) : Type 0 where
   pub leaving : (l : ℕ) → l < length net.link_names → slice_index lv1 l ≡ outward (link_at net l).to (waits_at net w.queues w.recent w.second l)
   pub queues : (l : ℕ) → l < length net.link_names → slice_index qs1 l ≡ waits_at net w.queues w.recent w.second l - slice_index lv1 l
   pub held : (l : ℕ) → l < length net.link_names → slice_index hs1 l ≡ slice_index w.held l - slice_index lv1 l
   pub none : (l : ℕ) → l < length net.link_names → slice_index en1 l ≡ 0
-  pub serves : (l : ℕ) → l < length net.link_names → slice_index_or served l false ≡ served_at net w.waits signs w.second l (link_at net l).to
+  pub serves : (l : ℕ) → l < length net.link_names → slice_index_or served l false ≡ served_at net w.waits signs since w.second l (link_at net l).to
 
 -- What the code has done after that in the second, by the lists of what enters and of what is held once all have discharged.
 pub record IsEnded (net : Net) (arriving : ℕ → ℕ) (store : List ℕ) (w : SpillState) (qs en hs : List ℕ) (v : SpillState) : Type 0 where
@@ -153,7 +155,7 @@ module _ (net : Net) (network : IsNetwork net) (arriving : ℕ → ℕ → ℕ) 
       omega (arith, queues, links, outside-most P (y + 1))) in
       omega (arith, each, total-of 642000000000 x, stands.by, ap (λ (t : SpillTotals). t.delay) stands.totals)
 
-  module _ (signs : List Sign) (served : List Bool) (lv1 qs1 en1 hs1 : List ℕ) (begun : IsBegun net w signs served lv1 qs1 en1 hs1) where
+  module _ (signs : List Sign) (since : List ℕ) (served : List Bool) (lv1 qs1 en1 hs1 : List ℕ) (begun : IsBegun net w signs since served lv1 qs1 en1 hs1) where
     -- what waits and what is held, as the links discharge
     pub are-held : AreHeld net store qs1 en1 hs1
     are-held = record {
@@ -161,22 +163,22 @@ module _ (net : Net) (network : IsNetwork net) (arriving : ℕ → ℕ → ℕ) 
       within = λ l h. omega (arith, begun.held l h, stands.held l h, within-at net network arriving (slice_index store) shown x l h);
     }
 
-    module _ (begins : (n : ℕ) → n < length net.node_names → HasBegun w.second (slice_index_or signs n Dark))
+    module _ (early : w.second < 18000) (lit : (l : ℕ) → l < length net.link_names → slice_index since l ≡ lit_since (is_green net shown l) (w.second + 1))
         (seen : (n : ℕ) → n < length net.node_names → shown w.second n ≡ slice_index_or signs n Dark) where
-      agree : AgreeAt net (opening_by qs1 lv1 served hs1) (opening net (shown w.second) P w.second)
+      agree : AgreeAt net (opening_by qs1 lv1 served hs1) (opening net shown P w.second)
       agree = record {
         waits = λ l h. omega (arith, begun.queues l h, begun.leaving l h, waits-now l h, outward-most (link_at net l).to (waits_at net w.queues w.recent w.second l));
         may_go = λ l node h to.
             let there = (bounds-of net network).ends l node h to in
-            begun.serves l h ∙ ap (served_at net w.waits signs w.second l) to
-            ∙ open-same net x P w.queues w.recent w.waits (bounds-of net network) (sound x) stands.keeps l node (slice_index_or signs node Dark) h to (begins node there)
-            ∙ ap (may_go net P x l node) (sym (seen node there));
+            begun.serves l h ∙ ap (served_at net w.waits signs since w.second l) to
+            ∙ ap (is_open net w.waits since w.second l node) (sym (seen node there))
+            ∙ open-same net x P w.queues w.recent w.waits (bounds-of net network) (sound x) stands.keeps shown since l node h to (omega (arith, early)) (lit l h);
         holds = λ l h. omega (arith, begun.held l h, begun.leaving l h, stands.held l h, ap (outward (link_at net l).to) (waits-now l h));
       }
 
       module _ (lv qs en hs : List ℕ) (done : HaveDischarged net store served (length net.link_names) lv1 qs1 en1 hs1 lv qs en hs) where
-        same : first_goes net store served (length net.link_names) lv1 qs1 hs1 ≡ goes_of net (slice_index store) (shown w.second) P w.second (length net.link_names)
-        same = goes-same net network (slice_index store) (opening_by qs1 lv1 served hs1) (opening net (shown w.second) P w.second) agree (length net.link_names) (omega arith)
+        same : first_goes net store served (length net.link_names) lv1 qs1 hs1 ≡ goes_of net (slice_index store) shown P w.second (length net.link_names)
+        same = goes-same net network (slice_index store) (opening_by qs1 lv1 served hs1) (opening net shown P w.second) agree (length net.link_names) (omega arith)
 
         goes-are : (l : ℕ) → l < length net.link_names → slice_index lv l ≡ (moves x).goes l
         goes-are l h = done.goes l h ∙ ap (λ g. slice_index g l) same
@@ -198,9 +200,9 @@ module _ (net : Net) (network : IsNetwork net) (arriving : ℕ → ℕ → ℕ) 
         given-are : (l : ℕ) → first_given net store served (length net.link_names) lv1 qs1 hs1 l ≡ parts l
         given-are l = ap (λ g. total (λ k. split_of (turns_at net k) (slice_index g k) l) (length net.link_names)) same
 
-        held-are : (l : ℕ) → l < length net.link_names → slice_index hs l ≡ held_after net (shown w.second) P x (goes_of net (slice_index store) (shown w.second) P w.second (length net.link_names)) l
+        held-are : (l : ℕ) → l < length net.link_names → slice_index hs l ≡ held_after net shown P x (goes_of net (slice_index store) shown P w.second (length net.link_names)) l
         held-are l h =
-            let by = held-given net (slice_index store) (opening net (shown w.second) P w.second) (length net.link_names) l in
+            let by = held-given net (slice_index store) (opening net shown P w.second) (length net.link_names) l in
             let into = ap (λ g. inward (link_at net l).to (slice_index g l)) same in
             omega (arith, by, into, done.holds l, given-are l, agree.holds l h)
 
@@ -286,13 +288,13 @@ module _ (net : Net) (network : IsNetwork net) (arriving : ℕ → ℕ → ℕ) 
               let kept : (y : ℕ) → y ≤ x → queue net Q y l ≡ queue net P y l = λ y b. kept-queue net (moves x) x P Q w.queues w.recent w.waits (bounds-of net network) on stands.keeps y l b in
               ended.stands l h ∙ ap (λ q. stands_on q (slice_index w.stood l)) (keeps.queues l h) ∙ ap (stands_on (queue net Q (x + 1) l)) (stands.stood l h ∙ sym (stood-kept net Q P x l kept)) ∙ sym (stood-next net Q x l)
 
-          pub stands-next : w.second < 18000 → v.second ≡ w.second + 1 → v.queues ≡ qs → HasShape net v
+          pub stands-next : v.second ≡ w.second + 1 → v.signs ≡ signs → v.since ≡ since → v.queues ≡ qs → HasShape net v
               → v.totals.entered ≡ w.totals.entered + total (comes_of store hs w.outside (arriving w.second)) (length net.link_names)
               → v.totals.left ≡ w.totals.left + total (λ l. outward (link_at net l).to (waits_at net w.queues w.recent w.second l)) (length net.link_names)
               → v.totals.on ≡ v.totals.entered - v.totals.left → v.totals.outside ≡ total (slice_index v.outside) (length net.link_names)
               → v.totals.delay ≡ w.totals.delay + (total (slice_index qs) (length net.link_names) + total (slice_index v.outside) (length net.link_names))
               → Stands net arriving (slice_index store) shown v
-          stands-next early second queues shape entered left on_links waits delay =
+          stands-next second own_signs own_since queues shape entered left on_links waits delay =
               let all-entered : v.totals.entered ≡ (stored_totals net arriving Q (x + 1)).entered = entered ∙ entered-next in
               let all-left : v.totals.left ≡ total_left net Q (x + 1) = left ∙ left-next in
               let all-on : v.totals.on ≡ (stored_totals net arriving Q (x + 1)).on = omega (arith, on_links, all-entered, all-left, spilled-whole net network arriving (slice_index store) shown sources (x + 1)) in
@@ -306,4 +308,5 @@ module _ (net : Net) (network : IsNetwork net) (arriving : ℕ → ℕ → ℕ) 
                 totals = subst (λ n. v.totals ≡ stored_totals net arriving (past n) n) (sym second) (same-totals v.totals (stored_totals net arriving Q (x + 1)) all-entered all-left all-on all-outside all-delay);
                 stood = λ l h. subst (λ n. slice_index v.stood l ≡ stood net (past n) n l) (sym second) (stood-now l h);
                 outside = λ l h. subst (λ n. slice_index v.outside l ≡ outside arriving (past n) n l) (sym second) (outside-next l h);
+                lights = subst (λ n. AreShown net shown n v.signs v.since) (sym second) (lights-parts net shown (x + 1) signs v.signs since v.since own_signs own_since (record { signs = λ node h. sym (seen node h) ∙ sym (ap (λ n. last_sign shown n node) (add-one x)); since = lit }));
               }

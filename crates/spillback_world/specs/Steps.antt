@@ -10,14 +10,14 @@ use Rattle.net_simulator.specs.Rows.{kept_seconds}
 use Rattle.spillback_world.specs.declared.totals.SpillTotals.{SpillTotals}
 use Rattle.spillback_world.specs.declared.worlds.Links.{Links}
 use Rattle.spillback_world.specs.Storage.{Opening, all_goes, inward}
-use Rattle.spillback_world.specs.Worlds.{SpillState}
+use Rattle.spillback_world.specs.Worlds.{SpillState, Stands}
 use Rattle.control_flow.specs.declared.greens.Sign.{Sign}
 use Rattle.control_flow.specs.declared.greens.Sign.TheVariants.{Dark}
 
--- whether link l may discharge in second x, by the queues after each of the last seconds and what the nodes show
-abbrev pub served_at : Net → List ℕ → List Sign → ℕ → ℕ → Option ℕ → Bool
-served_at net waits signs x l None = false
-served_at net waits signs x l (Some node) = is_open net waits x l node (slice_index_or signs node Dark)
+-- whether link l may discharge in second x, by the queues after each of the last seconds, what the nodes show, and since when each link is green
+abbrev pub served_at : Net → List ℕ → List Sign → List ℕ → ℕ → ℕ → Option ℕ → Bool
+served_at net waits signs since x l None = false
+served_at net waits signs since x l (Some node) = is_open net waits since x l node (slice_index_or signs node Dark)
 
 -- how a second begins, by the queues, what leaves the network, which links may discharge, and what is on each link
 abbrev pub opening_by : List ℕ → List ℕ → List Bool → List ℕ → Opening
@@ -93,10 +93,11 @@ abbrev pub comes_of : List ℕ → List ℕ → List ℕ → (ℕ → ℕ) → �
 comes_of store held outside arriving l = min (slice_index outside l + arriving l) (room_of store held l)
 
 -- a world by what is kept of its links
-abbrev pub state_of : Links → ℕ → ℕ → SpillTotals → SpillState
-state_of links second nodes totals = record {
+abbrev pub state_of : Links → ℕ → List Sign → List ℕ → SpillTotals → SpillState
+state_of links second signs since totals = record {
   second = second;
-  nodes = nodes;
+  signs = signs;
+  since = since;
   queues = links.queues.items;
   recent = links.recent.items;
   waits = links.waits.items;
@@ -105,6 +106,12 @@ state_of links second nodes totals = record {
   held = links.held.items;
   totals = totals;
 }
+
+-- The world has looked at the lights of its second: what it keeps of links is what it was before, with other signs and greens.
+pub record IsLookedAt (net : Net) (arriving : ℕ → ℕ → ℕ) (store : ℕ → ℕ) (shown : ℕ → ℕ → Sign) (links : Links) (second : ℕ) (totals : SpillTotals) : Type 0 where
+  pub signs : List Sign
+  pub since : List ℕ
+  pub stands : Stands net arriving store shown (state_of links second signs since totals)
 
 -- there is a place for each link in what a second needs
 pub record HaveScratch (links : Links) : Type 0 where

@@ -48,19 +48,19 @@ abbrev pub first_out : Net → (ℕ → ℕ → Cumulative) → ℕ → ℕ → 
 first_out net past x l = outward (link_at net l).to (waiting net past x l)
 
 -- how second x begins
-abbrev pub opening : Net → (ℕ → Sign) → (ℕ → ℕ → Cumulative) → ℕ → Opening
+abbrev pub opening : Net → (ℕ → ℕ → Sign) → (ℕ → ℕ → Cumulative) → ℕ → Opening
 opening net shown past x = record {
   waits = waiting net past x;
-  may_go = λ l node. may_go net past x l node (shown node);
+  may_go = λ l node. may_go net shown past x l node;
   holds = λ l. (past x l).entered - (past x l).left - first_out net past x l;
 }
 
 -- what is on link l in second x, once the first links have discharged
-abbrev pub held_after : Net → (ℕ → Sign) → (ℕ → ℕ → Cumulative) → ℕ → List ℕ → ℕ → ℕ
+abbrev pub held_after : Net → (ℕ → ℕ → Sign) → (ℕ → ℕ → Cumulative) → ℕ → List ℕ → ℕ → ℕ
 held_after net shown past x goes l = held_by net (opening net shown past x) goes l
 
 -- the discharges of the first n links in second x
-abbrev pub goes_of : Net → (ℕ → ℕ) → (ℕ → Sign) → (ℕ → ℕ → Cumulative) → ℕ → ℕ → List ℕ
+abbrev pub goes_of : Net → (ℕ → ℕ) → (ℕ → ℕ → Sign) → (ℕ → ℕ → Cumulative) → ℕ → ℕ → List ℕ
 goes_of net store shown past x n = all_goes net store (opening net shown past x) n
 
 -- what waits outside of a link after n seconds: what arrived there and has not entered. Nothing arrives at a link that comes from a
@@ -69,14 +69,14 @@ abbrev pub outside : (ℕ → ℕ → ℕ) → (ℕ → ℕ → Cumulative) → 
 outside arriving past n l = total (λ x. arriving x l) n - (past n l).entered
 
 -- what of that, and of what arrives in second x, enters the link then: as much as there is room for, once all links have discharged
-abbrev pub let_in : Net → (ℕ → ℕ → ℕ) → (ℕ → ℕ) → (ℕ → Sign) → (ℕ → ℕ → Cumulative) → ℕ → List ℕ → ℕ → ℕ
+abbrev pub let_in : Net → (ℕ → ℕ → ℕ) → (ℕ → ℕ) → (ℕ → ℕ → Sign) → (ℕ → ℕ → Cumulative) → ℕ → List ℕ → ℕ → ℕ
 let_in net arriving store shown past x goes l = min (outside arriving past x l + arriving x l) (store l - held_after net shown past x goes l)
 
 -- what moves in second x
 abbrev pub stored_moves : Net → (ℕ → ℕ → ℕ) → (ℕ → ℕ) → (ℕ → ℕ → Sign) → List (List Cumulative) → ℕ → Moves
 stored_moves net arriving store shown before x =
-    let goes = goes_of net store (shown x) (passed_in before) x (length net.link_names) in
-    record { goes = slice_index goes; comes = let_in net arriving store (shown x) (passed_in before) x goes }
+    let goes = goes_of net store shown (passed_in before) x (length net.link_names) in
+    record { goes = slice_index goes; comes = let_in net arriving store shown (passed_in before) x goes }
 
 -- what passed each link in the first n seconds, for n up to `now`
 abbrev pub cumulative_in : Net → (ℕ → ℕ → ℕ) → (ℕ → ℕ) → (ℕ → ℕ → Sign) → ℕ → ℕ → ℕ → Cumulative

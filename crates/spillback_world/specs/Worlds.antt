@@ -6,17 +6,18 @@ use Rattle.arrivals.specs.Amounts.{Amounts, AreArrivals, arriving_of}
 use Rattle.net_parts.specs.Numbers.{Net}
 use Rattle.net_simulator.specs.Rows.{kept_seconds}
 use Rattle.net_simulator.specs.Senses.{stood}
-use Rattle.net_simulator.specs.Worlds.{Keeps, signs_by}
+use Rattle.net_simulator.specs.Worlds.{AreShown, Keeps, signs_by}
 use Rattle.spillback_world.specs.declared.totals.SpillTotals.{SpillTotals}
 use Rattle.spillback_world.specs.StoredTotals.{stored_totals}
 use Rattle.spillback_world.specs.Storage.{outside, cumulative_in}
 use Rattle.control_flow.specs.declared.greens.Sign.{Sign}
 
--- what a world keeps: its second, how many nodes its network has, and for each link its queue, rows of what entered it and of its
+-- what a world keeps: its second, the last sign of each node, and for each link since when it is green, its queue, rows of what entered it and of its
 -- queues, for how long a queue has stood, what waits outside of it, what is on it, and what is counted
 pub record SpillState : Type 0 where
   pub second : ℕ
-  pub nodes : ℕ
+  pub signs : List Sign
+  pub since : List ℕ
   pub queues : List ℕ
   pub recent : List ℕ
   pub waits : List ℕ
@@ -27,7 +28,8 @@ pub record SpillState : Type 0 where
 
 -- it has a place for each node and link
 pub record HasShape (net : Net) (w : SpillState) : Type 0 where
-  pub nodes : w.nodes ≡ length net.node_names
+  pub signs : length w.signs ≡ length net.node_names
+  pub since : length w.since ≡ length net.link_names
   pub queues : length w.queues ≡ length net.link_names
   pub recent : length w.recent ≡ length net.link_names * kept_seconds
   pub waits : length w.waits ≡ length net.link_names * kept_seconds
@@ -45,6 +47,7 @@ pub record Stands (net : Net) (arriving : ℕ → ℕ → ℕ) (store : ℕ → 
   pub totals : w.totals ≡ stored_totals net arriving (cumulative_in net arriving store shown w.second) w.second
   pub stood : (l : ℕ) → l < length net.link_names → slice_index w.stood l ≡ stood net (cumulative_in net arriving store shown w.second) w.second l
   pub outside : (l : ℕ) → l < length net.link_names → slice_index w.outside l ≡ outside arriving (cumulative_in net arriving store shown w.second) w.second l
+  pub lights : AreShown net shown w.second w.signs w.since
 
 -- a world stands for this network with some arrivals, storages and timelines
 pub record IsWorldOf (net : Net) (w : SpillState) : Type 0 where

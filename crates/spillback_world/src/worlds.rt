@@ -6,12 +6,13 @@ ghost use Rattle.arrivals.specs.Amounts.{AreArrivals, arriving_of};
 ghost use Rattle.control_flow.specs.declared.greens.Sign.{Sign};
 ghost use Rattle.control_flow.specs.declared.greens.Sign.TheVariants.{Dark};
 ghost use Rattle.control_flow.specs.Signs.{sign_at};
+ghost use Rattle.net_simulator.specs.LinkGreens.{is_green, lit_since};
 ghost use Rattle.net_simulator.specs.Senses.{near_on, sense};
 ghost use Rattle.net_simulator.specs.Worlds.{signs_by};
 ghost use Rattle.road_net.specs.Senses.{IsSensedOf};
 ghost use Rattle.spillback_world.specs.StoredTotals.{IsBalanced};
 ghost use Rattle.spillback_world.specs.Storage.{cumulative_in};
-ghost use Rattle.spillback_world.specs.Steps.{AreEmpty, HaveScratch, state_of};
+ghost use Rattle.spillback_world.specs.Steps.{AreEmpty, HaveScratch, IsLookedAt, state_of};
 ghost use Rattle.spillback_world.specs.Worlds.{SpillState, Stands, IsWorldOf};
 
 use crate::amounts::{clear, sum};
@@ -25,9 +26,9 @@ use control_flow::greens::Sign;
 use foundation::items::Items;
 use foundation::threads::CrossesThreads;
 use net_simulator::Lights;
-use net_simulator::link_seconds::{look, remember};
+use net_simulator::link_seconds::{Shown, look, remember};
 use net_simulator::sensing::{Sight, near_amount, sense_links};
-use net_simulator::starts::{no_signs, zeros};
+use net_simulator::starts::{no_greens, no_signs, zeros};
 use road_net::{Network, Sensed, law_of_network};
 use std::alloc::{AllocError, Global};
 use std::marker::Model;
@@ -57,6 +58,7 @@ pub struct SpillWorld {
     second: u32,
     links: Links,
     signs: Vec<Sign>,
+    since: Vec<u32>,
     totals: SpillTotals,
 }
 
@@ -68,7 +70,7 @@ impl Model for SpillWorld {
 
     ghost Value = { SpillState };
 
-    ghost view = { λ w. state_of w.links w.second (length w.signs.items) w.totals };
+    ghost view = { λ w. state_of w.links w.second w.signs.items w.since.items w.totals };
 
     ghost invariant = { λ w. HaveScratch w.links × IsBalanced w.totals };
 }
@@ -88,10 +90,12 @@ impl SpillWorld {
     {
         let links = empty_links(alloc, net.links() as usize)?;
         let signs = no_signs(alloc, net.nodes() as usize)?;
+        let since = no_greens(alloc, net.links() as usize)?;
         Ok(SpillWorld {
             second: 0,
             links,
             signs,
+            since,
             totals: SpillTotals {
                 entered: 0,
                 left: 0,
@@ -218,13 +222,15 @@ impl SpillWorld {
         ensures stands { Stands net.now (arriving_of arrivals.now) (slice_index store.now)
             (signs_by (T.lines lights.now)) self.new }
     {
+        law_of_network(net);
         let x = self.second;
-        look(self.signs.as_mut_slice(), net, lights, x);
+        look(self.signs.as_mut_slice(), self.since.as_mut_slice(), net, lights, x);
         let moment = Moment {
             net,
             store,
             lights,
             signs: self.signs.as_slice(),
+            since: self.since.as_slice(),
             arrivals,
             totals: self.totals,
             second: x,
@@ -242,6 +248,7 @@ struct Moment<'a, T> {
     store: &'a Store,
     lights: &'a T,
     signs: &'a [Sign],
+    since: &'a [u32],
     arrivals: &'a Arrivals,
     totals: SpillTotals,
     second: u32,
@@ -255,14 +262,19 @@ fn pass_second<T: Lights>(links: &mut Links, moment: &Moment<T>) -> SpillTotals
     requires arrivals { AreArrivals moment.now.net.now moment.now.arrivals.now }
     requires signs { (n : ℕ) → n < length moment.now.net.now.node_names
         → slice_index_or moment.now.signs.now n Dark ≡ sign_at (T.lines moment.now.lights.now n) moment.now.second }
-    requires stands { Stands moment.now.net.now (arriving_of moment.now.arrivals.now) (slice_index moment.now.store.now)
-        (signs_by (T.lines moment.now.lights.now))
-        (state_of links.old moment.now.second (length moment.now.signs.now) moment.now.totals) }
+    requires nodes { length moment.now.signs.now ≡ length moment.now.net.now.node_names }
+    requires links { length moment.now.since.now ≡ length moment.now.net.now.link_names }
+    requires since { (l : ℕ) → l < length moment.now.net.now.link_names
+        → slice_index moment.now.since.now l ≡
+        lit_since (is_green moment.now.net.now (signs_by (T.lines moment.now.lights.now)) l) (moment.now.second + 1) }
+    requires stands { IsLookedAt moment.now.net.now (arriving_of moment.now.arrivals.now)
+        (slice_index moment.now.store.now) (signs_by (T.lines moment.now.lights.now))
+        links.old moment.now.second moment.now.totals }
     ensures scratch { HaveScratch links.new }
     ensures whole { IsBalanced result }
     ensures stands { Stands moment.now.net.now (arriving_of moment.now.arrivals.now) (slice_index moment.now.store.now)
         (signs_by (T.lines moment.now.lights.now))
-        (state_of links.new (moment.now.second + 1) (length moment.now.signs.now) result) }
+        (state_of links.new (moment.now.second + 1) moment.now.signs.now moment.now.since.now result) }
 {
     let net = moment.net;
     let store = moment.store;
@@ -277,7 +289,11 @@ fn pass_second<T: Lights>(links: &mut Links, moment: &Moment<T>) -> SpillTotals
     let waits = links.waits.as_mut_slice();
     let served = links.served.as_mut_slice();
     let out = reach_ends(leaving, queues, held, net, recent, x);
-    serve(served, net, waits, moment.signs, x);
+    let shown = Shown {
+        signs: moment.signs,
+        since: moment.since,
+    };
+    serve(served, net, waits, &shown, x);
     clear(entering, all);
     let site = Site { net, store, served };
     discharge(leaving, queues, entering, held, &site);

@@ -76,17 +76,17 @@ module _ (net : Net) (arriving : ℕ → ℕ → ℕ) (seen : ℕ → ℕ → Si
   stands n = queue net (cumulative_under net arriving seen n) n l
 
   -- in the seconds of a green after its start-up
-  loses : (n x since j : ℕ) → n ≤ x → since + (phase_at (plan_at net node) (link_at net l).phase).loss ≤ x → ((i : ℕ) → i < j → seen (x + i) node ≡ On (link_at net l).phase since)
+  loses : (n x since j : ℕ) → n ≤ x → since + (phase_at (plan_at net node) (link_at net l).phase).loss ≤ x → ((y : ℕ) → since ≤ y → y < x + j → seen y node ≡ On (link_at net l).phase since)
       → gone n + min (stands n) (j * (link_at net l).sat) ≤ gone (x + j)
   loses n x since zero h spent shows =
       let e : x + 0 ≡ x = omega arith in
       omega (arith, left-later net arriving seen l inside n x h, ap gone e)
   loses n x since (suc j) h spent shows =
-      let before = loses n x since j h spent (λ i less. shows i (omega (arith, less))) in
+      let before = loses n x since j h spent (λ z low less. shows z low (omega (arith, less))) in
       let y = x + j in
       let e : x + suc j ≡ y + 1 = omega arith in
       let come = entered-later net arriving seen l inside (n - (link_at net l).travel) (y + 1 - (link_at net l).travel) (omega (arith, h)) in
-      let goes = goes-open net arriving seen l inside travels flows node ends y since (shows j (omega arith)) (omega (arith, spent)) in
+      let goes = goes-open net arriving seen l inside travels flows node ends y since (λ z low high. shows z low (omega (arith, high))) (omega (arith, spent)) in
       omega (arith, before, come, goes, suc-mul j (link_at net l).sat, queue-is net arriving seen l inside travels flows node ends n, waiting-is net arriving seen l inside travels flows node ends y, left-next net arriving seen l inside y, left-later net arriving seen l inside n y (omega (arith, h)), ap gone e)
 
 -- the law, for lines
@@ -109,10 +109,11 @@ module _ (net : Net) (network : IsNetwork net) (arriving : ℕ → ℕ → ℕ) 
       let least : one.row.from + times.least ≤ one.row.to = subst (λ (j : ℕ). one.row.from + (phase_at (plan_at net node) j).least ≤ one.row.to) one.phase one.green.least in
       let count = times.least - times.loss in
       let x = one.row.from + times.loss in
-      let shows : (i : ℕ) → i < count → signs_by lines (x + i) node ≡ On k one.row.from = λ i less. on-at (lines node) (x + i) one.row k (order-lawful (plan_at net node) (lines node) p lawful) (one.found (x + i) (omega arith) (omega (arith, less, least))) one.phase in
+      let shows : times.loss < times.least → (y : ℕ) → one.row.from ≤ y → y < x + count → signs_by lines y node ≡ On k one.row.from = λ some y low less.
+      on-at (lines node) y one.row k (order-lawful (plan_at net node) (lines node) p lawful) (one.found y low (omega (arith, some, less, least))) one.phase in
       elim (cases_lt times.loss times.least) [
         | inl some ↦
-            let loss = loses net arriving (signs_by lines) l inside link-is.travel.0 link-is.sat.0 node ends n x one.row.from count (omega (arith, one.after)) (omega arith) shows in
+            let loss = loses net arriving (signs_by lines) l inside link-is.travel.0 link-is.sat.0 node ends n x one.row.from count (omega (arith, one.after)) (omega arith) (shows some) in
             omega (arith, loss, left-later net arriving (signs_by lines) l inside (x + count) (n + (times.greatest + most + times.greatest)) (omega (arith, least, one.before, some)))
         | inr none ↦
             let e : count ≡ 0 = omega (arith, none) in

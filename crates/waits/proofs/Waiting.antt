@@ -1,5 +1,5 @@
 -- A queue of a phase that is green within some time discharges within that time and the start-up of the green.
-use Rattle.std.proofs.Common.{◌≡◌, ℕ, zero, suc, ◌+◌, ◌-◌, ◌<◌, ◌≤◌, min, Bool, true, false, cond, eqb, ltb, not, ◌&&◌, List, [], length, IfSome, Option, Some, refl, sym, ap, subst, ◌∙◌, inl, inr, arith}
+use Rattle.std.proofs.Common.{◌≡◌, ℕ, zero, suc, ◌+◌, ◌-◌, ◌<◌, ◌≤◌, min, Bool, true, false, cond, eqb, ltb, not, ◌&&◌, ◌||◌, List, [], length, IfSome, Option, Some, refl, sym, ap, subst, ◌∙◌, inl, inr, arith}
 use Rattle.std.proofs.lemmas.Bool.{and_from, and_left, cases_lt, eq-eqb, le-ltb}
 use Rattle.std.proofs.lemmas.List.Elements.{All-get_or}
 use Rattle.phase_plan.specs.Phases.{IsPlan, is_unmarked_at, phase_at}
@@ -8,13 +8,16 @@ use Rattle.control_flow.specs.declared.greens.Green.{Green}
 use Rattle.control_flow.specs.declared.greens.Sign.{Sign}
 use Rattle.control_flow.specs.declared.greens.Sign.TheVariants.{On}
 use Rattle.control_flow.proofs.OrderLaws.{order-lawful}
-use Rattle.net_parts.specs.Numbers.{Net, no_link}
-use Rattle.net_parts.specs.Outline.{IsLink, link_at, plan_at}
+use Rattle.net_parts.specs.Numbers.{Net, has_link, no_link}
+use Rattle.net_parts.specs.Outline.{IsLink, also_links_at, is_green_to, link_at, plan_at}
 use Rattle.road_net.specs.Network.{IsNetwork}
 use Rattle.road_net.proofs.Served.{served}
 use Rattle.net_simulator.specs.Flow.{Cumulative, discharge, discharge_to, may_go, passing, cumulative_under, queue, waiting}
+use Rattle.net_simulator.specs.Discharging.{begun}
+use Rattle.net_simulator.specs.LinkGreens.{is_green, is_lit, loss_of}
 use Rattle.net_simulator.specs.Worlds.{signs_by}
 use Rattle.net_simulator.proofs.FlowLaws.{past-kept, past-next}
+use Rattle.net_simulator.proofs.LightLaws.{begun-since, green-at}
 use Rattle.waits.specs.Discharges.{Discharges, longest_wait}
 use Rattle.waits.specs.Waits.{IsGreenBy, AreIntergreensWithin, longest_way}
 use Rattle.waits.proofs.Shown.{IsShown, on-at, shown}
@@ -37,13 +40,13 @@ module _ (net : Net) (arriving : ℕ → ℕ → ℕ) (seen : ℕ → ℕ → Si
       let e : n + (now - n) ≡ now = omega arith in
       ap (λ (x : ℕ). cumulative_under net arriving seen x n l) (sym e) ∙ still (now - n) n
 
-  next : (x : ℕ) → passed (x + 1) ≡ passing net (arriving x) (seen x) (cumulative_under net arriving seen x) x l
+  next : (x : ℕ) → passed (x + 1) ≡ passing net (arriving x) seen (cumulative_under net arriving seen x) x l
   next x =
       let e : x + 1 ≡ suc x = omega arith in
       ap (λ (y : ℕ). cumulative_under net arriving seen y (x + 1) l) e ∙ past-next net arriving seen x l inside
 
   abbrev goes : ℕ → ℕ
-  goes x = discharge net (seen x) (cumulative_under net arriving seen x) x l
+  goes x = discharge net seen (cumulative_under net arriving seen x) x l
 
   pub left-next : (x : ℕ) → (passed (x + 1)).left ≡ (passed x).left + goes x
   left-next x = ap (λ (q : Cumulative). q.left) (next x)
@@ -86,20 +89,30 @@ module _ (net : Net) (arriving : ℕ → ℕ → ℕ) (seen : ℕ → ℕ → Si
     pub waiting-is : (x : ℕ) → waiting net (cumulative_under net arriving seen x) x l ≡ (passed (x + 1 - travel)).entered - (passed x).left
     waiting-is x = (let e = ap (λ (q : Cumulative). q.entered) (in-past x (x + 1 - travel) (omega arith)) in omega (arith, e))
 
-    -- in a second in which the link may discharge, what waits goes, or as much as can
-    pub goes-open : (x since : ℕ) → seen x node ≡ On (link_at net l).phase since → since + (phase_at (plan_at net node) (link_at net l).phase).loss ≤ x
+    -- a sign of its home is a green of the link
+    on-home : (y since : ℕ) → seen y node ≡ On (link_at net l).phase since → is_green net seen l y ≡ true
+    on-home y since shows =
+        green-at net seen l y node ends ∙ ap (is_lit net l) shows ∙ ap (is_green_to net l (link_at net l).phase) ends
+        ∙ ap (λ (b : Bool). b || has_link l (also_links_at net node (link_at net l).phase)) (eq-eqb (link_at net l).phase (link_at net l).phase refl)
+
+    -- in a second after the start-up of a green of its home, what waits goes, or as much as can
+    pub goes-open : (x since : ℕ) → ((y : ℕ) → since ≤ y → y ≤ x → seen y node ≡ On (link_at net l).phase since) → since + (phase_at (plan_at net node) (link_at net l).phase).loss ≤ x
         → goes x ≡ min (link_at net l).sat (waiting net (cumulative_under net arriving seen x) x l)
     goes-open x since shows spent =
         let p = cumulative_under net arriving seen x in
-        let k = (link_at net l).phase in
-        let lost : (ltb x (since + (phase_at (plan_at net node) k).loss) && ltb 0 (queue net p since l)) ≡ false = and_left (ltb x (since + (phase_at (plan_at net node) k).loss)) (ltb 0 (queue net p since l)) (le-ltb x (since + (phase_at (plan_at net node) k).loss) spent) in
-        let may : may_go net p x l node (On k since) ≡ true = and_from (eqb k k) (not (ltb x (since + (phase_at (plan_at net node) k).loss) && ltb 0 (queue net p since l))) (eq-eqb k k refl) (ap not lost) in
-        ap (λ (to : Option ℕ). discharge_to net (seen x) p x l to) ends
-        ∙ ap (λ (s : Sign). cond (may_go net p x l node s) (min (link_at net l).sat (waiting net p x l)) 0) shows
+        let on = is_green net seen l in
+        let loss = (phase_at (plan_at net node) (link_at net l).phase).loss in
+        let here = shows x (omega (arith, spent)) (omega arith) in
+        let from : begun on x ≤ since = begun-since on since x (omega (arith, spent)) (λ y low high. on-home y since (shows y low (omega (arith, high)))) in
+        let losses : loss_of (plan_at net node) (seen x node) ≡ loss = ap (loss_of (plan_at net node)) here in
+        let lost : (ltb x (begun on x + loss_of (plan_at net node) (seen x node)) && ltb 0 (queue net p (begun on x) l)) ≡ false =
+        and_left (ltb x (begun on x + loss_of (plan_at net node) (seen x node))) (ltb 0 (queue net p (begun on x) l)) (le-ltb x (begun on x + loss_of (plan_at net node) (seen x node)) (omega (arith, from, losses, spent))) in
+        let may : may_go net seen p x l node ≡ true = and_from (on x) (not (ltb x (begun on x + loss_of (plan_at net node) (seen x node)) && ltb 0 (queue net p (begun on x) l))) (on-home x since here) (ap not lost) in
+        ap (λ (to : Option ℕ). discharge_to net seen p x l to) ends
         ∙ ap (λ (b : Bool). cond b (min (link_at net l).sat (waiting net p x l)) 0) may
 
     -- a queue that stands after the first n seconds has lost something by the end of such a second
-    pub goes-by : (n x since : ℕ) → n ≤ x → seen x node ≡ On (link_at net l).phase since → since + (phase_at (plan_at net node) (link_at net l).phase).loss ≤ x
+    pub goes-by : (n x since : ℕ) → n ≤ x → ((y : ℕ) → since ≤ y → y ≤ x → seen y node ≡ On (link_at net l).phase since) → since + (phase_at (plan_at net node) (link_at net l).phase).loss ≤ x
         → 0 < queue net (cumulative_under net arriving seen n) n l → (passed n).left < (passed (x + 1)).left
     goes-by n x since h shows spent stands =
         let grown = left-later n x h in
@@ -139,10 +152,10 @@ module _ (net : Net) (network : IsNetwork net) (arriving : ℕ → ℕ → ℕ) 
       elim (cases_lt by.second (one.row.from + loss)) [
         | inl starts ↦
             let x = one.row.from + loss in
-            let goes = goes-by net arriving (signs_by lines) l inside link-is.travel.0 link-is.sat.0 node ends n x one.row.from (omega (arith, by.after, starts)) (shows by.second x one (omega arith) (omega (arith, least, long))) (omega arith) now_stands in
+            let goes = goes-by net arriving (signs_by lines) l inside link-is.travel.0 link-is.sat.0 node ends n x one.row.from (omega (arith, by.after, starts)) (λ y low high. shows by.second y one low (omega (arith, high, least, long))) (omega arith) now_stands in
             omega (arith, goes, left-later net arriving (signs_by lines) l inside (x + 1) (n + (most + loss + 1)) (omega (arith, one.begun, by.before)), ap (λ (q : Cumulative). q.left) same, ap (λ (q : Cumulative). q.left) later)
         | inr goes_on ↦
-            let goes = goes-by net arriving (signs_by lines) l inside link-is.travel.0 link-is.sat.0 node ends n by.second one.row.from by.after (shows by.second by.second one one.begun one.still) goes_on now_stands in
+            let goes = goes-by net arriving (signs_by lines) l inside link-is.travel.0 link-is.sat.0 node ends n by.second one.row.from by.after (λ y low high. shows by.second y one low (omega (arith, high, one.still))) goes_on now_stands in
             omega (arith, goes, left-later net arriving (signs_by lines) l inside (by.second + 1) (n + (most + loss + 1)) (omega (arith, by.before)), ap (λ (q : Cumulative). q.left) same, ap (λ (q : Cumulative). q.left) later)
       ]
 

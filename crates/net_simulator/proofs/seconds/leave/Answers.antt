@@ -14,10 +14,10 @@ loop-l-preserved c =
     let inside : l.l < length l.leaving = omega (arith, below, c.requires.leaving, l.auto.leaving) in
     let there : l.l < length l.queues = omega (arith, below, c.requires.queues, l.auto.queues) in
     record {
-      leaving = leaves-more c.args.net.now c.args.signs.now c.args.waits.now c.args.recent.now c.args.queues.now l.queues l.leaving c.args.second l.l c.waiting_amount-waiting.result c.goes-amount.result
+      leaving = leaves-more c.args.net.now c.args.shown.now.signs.now c.args.shown.now.since.now c.args.waits.now c.args.recent.now c.args.queues.now l.queues l.leaving c.args.second l.l c.waiting_amount-waiting.result c.goes-amount.result
           l.invariant.rest c.waiting_amount-waiting.ensures c.goes-amount.ensures.value inside l.invariant.leaving;
-      queues = queues-more c.args.net.now c.args.signs.now c.args.waits.now c.args.recent.now c.args.queues.now l.queues l.leaving c.args.second l.l c.waiting_amount-waiting.result c.goes-amount.result
+      queues = queues-more c.args.net.now c.args.shown.now.signs.now c.args.shown.now.since.now c.args.waits.now c.args.recent.now c.args.queues.now l.queues l.leaving c.args.second l.l c.waiting_amount-waiting.result c.goes-amount.result
           l.invariant.rest c.waiting_amount-waiting.ensures c.goes-amount.ensures.value inside there l.invariant.queues;
-      rest = rest-more c.args.net.now c.args.signs.now c.args.waits.now c.args.recent.now c.args.queues.now l.queues l.leaving c.args.second l.l c.waiting_amount-waiting.result c.goes-amount.result
+      rest = rest-more c.args.net.now c.args.shown.now.signs.now c.args.shown.now.since.now c.args.waits.now c.args.recent.now c.args.queues.now l.queues l.leaving c.args.second l.l c.waiting_amount-waiting.result c.goes-amount.result
           l.invariant.rest c.waiting_amount-waiting.ensures c.goes-amount.ensures.value;
     }

@@ -6,7 +6,7 @@ use Rattle.net_simulator.proofs.seconds.leave.Given as goal
 
 abbrev pub invariant-loop-l : goal.invariant-loop-l
 invariant-loop-l l = record {
-  leaving : (k : ℕ) → k < l.l → slice_index l.leaving k ≡ goes l.net l.signs l.waits l.second k (waits_at l.net l.initial.queues l.recent l.second k) (link_at l.net k).to;
+  leaving : (k : ℕ) → k < l.l → slice_index l.leaving k ≡ goes l.net l.shown.signs.now l.shown.since.now l.waits l.second k (waits_at l.net l.initial.queues l.recent l.second k) (link_at l.net k).to;
   queues : (k : ℕ) → k < l.l → slice_index l.queues k ≡ waits_at l.net l.initial.queues l.recent l.second k - slice_index l.leaving k;
   rest : (k : ℕ) → l.l ≤ k → slice_index l.queues k ≡ slice_index l.initial.queues k;
 }

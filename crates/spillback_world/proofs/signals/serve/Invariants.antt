@@ -5,4 +5,4 @@ use Rattle.spillback_world.proofs.signals.serve.Given as goal
 
 -- told of the links so far
 abbrev pub invariant-loop-l : goal.invariant-loop-l
-invariant-loop-l l = (k : ℕ) → k < l.l → slice_index_or l.served k false ≡ served_at l.net l.waits l.signs l.second k (link_at l.net k).to
+invariant-loop-l l = (k : ℕ) → k < l.l → slice_index_or l.served k false ≡ served_at l.net l.waits l.shown.signs.now l.shown.since.now l.second k (link_at l.net k).to

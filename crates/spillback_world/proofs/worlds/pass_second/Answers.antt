@@ -2,7 +2,7 @@ use Rattle.std.proofs.Common.{◌≡◌, ◌+◌, ◌-◌, ◌*◌, length, slic
 use Rattle.arrivals.specs.Amounts.{arriving_of}
 use Rattle.net_simulator.specs.LinkSeconds.{waits_at}
 use Rattle.net_simulator.specs.Worlds.{signs_by}
-use Rattle.net_simulator.proofs.Passing.{begun-by, few-of, seen-by}
+use Rattle.net_simulator.proofs.Passing.{few-of, seen-by}
 use Rattle.std.proofs.lemmas.List.{with_items_is}
 use Rattle.spillback_world.specs.Steps.{state_of}
 use Rattle.spillback_world.specs.Worlds.{SpillState}
@@ -12,17 +12,14 @@ use Rattle.spillback_world.proofs.worlds.pass_second.Goals as goal
 
 pub reach_ends-out-requires-clause-there : goal.reach_ends-out-requires-clause-there
 reach_ends-out-requires-clause-there g c =
-    let stands = stands-seen c.args.moment.now.net.now (arriving_of c.args.moment.now.arrivals.now) (slice_index c.args.moment.now.store.now) (signs_by (g.T.Lights.lines c.args.moment.now.lights.now)) (state_of c.args.links.now c.args.moment.now.second (length c.args.moment.now.signs.now) c.args.moment.now.totals)
+    let stands = stands-seen c.args.moment.now.net.now (arriving_of c.args.moment.now.arrivals.now) (slice_index c.args.moment.now.store.now) (signs_by (g.T.Lights.lines c.args.moment.now.lights.now)) (state_of c.args.links.now c.args.moment.now.second c.requires.stands.signs c.requires.stands.since c.args.moment.now.totals)
     c.as_mut_slice-queues.result.now c.as_mut_slice-recent.result.now c.as_mut_slice-waits.result.now c.args.links.now.stood.items c.as_mut_slice-outside.result.now c.as_mut_slice-held.result.now
-    c.as_mut_slice-queues.ensures.value c.as_mut_slice-recent.ensures.value c.as_mut_slice-waits.ensures.value refl c.as_mut_slice-outside.ensures.value c.as_mut_slice-held.ensures.value c.requires.stands in
+    c.as_mut_slice-queues.ensures.value c.as_mut_slice-recent.ensures.value c.as_mut_slice-waits.ensures.value refl c.as_mut_slice-outside.ensures.value c.as_mut_slice-held.ensures.value c.requires.stands.stands in
     waits-held c.args.moment.now.net.now c.links-all.ensures.network (arriving_of c.args.moment.now.arrivals.now) c.args.moment.now.store.now (signs_by (g.T.Lights.lines c.args.moment.now.lights.now)) (few-of c.args.moment.now.net.now c.links-all.ensures.network c.args.moment.now.arrivals.now c.requires.arrivals) (sources-of c.args.moment.now.net.now c.args.moment.now.arrivals.now c.requires.arrivals) _ stands
-
-pub serve-requires-clause-begun : goal.serve-requires-clause-begun
-serve-requires-clause-begun g c = begun-by c.args.moment.now.signs.now (length c.args.moment.now.net.now.node_names) (g.T.Lights.lines c.args.moment.now.lights.now) c.args.moment.now.second c.requires.signs
 
 pub discharge-requires-clause-links : goal.discharge-requires-clause-links
 discharge-requires-clause-links g c =
-    let s = c.requires.stands.shape in
+    let s = c.requires.stands.stands.shape in
     record {
       store = c.requires.store;
       leaving = c.reach_ends-out.auto.leaving ∙ ap length c.as_mut_slice-leaving.ensures.value ∙ c.requires.scratch.leaving ∙ s.queues;
@@ -39,7 +36,7 @@ discharge-requires-clause-left g c =
 
 pub returns-clause-scratch : goal.returns-clause-scratch
 returns-clause-scratch g c =
-    let s = c.requires.stands.shape in
+    let s = c.requires.stands.stands.shape in
     let d = c.discharge.ensures.links in
     let links = c.args.links.now in
     let queues = ap length (with_items_is links.queues c.discharge.new.queues (omega (arith, d.queues, s.queues, links.queues.ok.0))) ∙ d.queues in
@@ -50,28 +47,28 @@ returns-clause-scratch g c =
     }
 
 pub reach_ends-out-requires-clause-leaving : goal.reach_ends-out-requires-clause-leaving
-reach_ends-out-requires-clause-leaving g c = ap length c.as_mut_slice-leaving.ensures.value ∙ c.requires.scratch.leaving ∙ c.requires.stands.shape.queues
+reach_ends-out-requires-clause-leaving g c = ap length c.as_mut_slice-leaving.ensures.value ∙ c.requires.scratch.leaving ∙ c.requires.stands.stands.shape.queues
 
 pub reach_ends-out-requires-clause-queues : goal.reach_ends-out-requires-clause-queues
-reach_ends-out-requires-clause-queues g c = ap length c.as_mut_slice-queues.ensures.value ∙ c.requires.stands.shape.queues
+reach_ends-out-requires-clause-queues g c = ap length c.as_mut_slice-queues.ensures.value ∙ c.requires.stands.stands.shape.queues
 
 pub reach_ends-out-requires-clause-held : goal.reach_ends-out-requires-clause-held
-reach_ends-out-requires-clause-held g c = ap length c.as_mut_slice-held.ensures.value ∙ c.requires.stands.shape.held
+reach_ends-out-requires-clause-held g c = ap length c.as_mut_slice-held.ensures.value ∙ c.requires.stands.stands.shape.held
 
 pub reach_ends-out-requires-clause-recent : goal.reach_ends-out-requires-clause-recent
-reach_ends-out-requires-clause-recent g c = ap length c.as_mut_slice-recent.ensures.value ∙ c.requires.stands.shape.recent
+reach_ends-out-requires-clause-recent g c = ap length c.as_mut_slice-recent.ensures.value ∙ c.requires.stands.stands.shape.recent
 
 pub serve-requires-clause-served : goal.serve-requires-clause-served
-serve-requires-clause-served g c = ap length c.as_mut_slice-served.ensures.value ∙ c.requires.scratch.served ∙ c.requires.stands.shape.queues
+serve-requires-clause-served g c = ap length c.as_mut_slice-served.ensures.value ∙ c.requires.scratch.served ∙ c.requires.stands.stands.shape.queues
 
 pub serve-requires-clause-waits : goal.serve-requires-clause-waits
-serve-requires-clause-waits g c = ap length c.as_mut_slice-waits.ensures.value ∙ c.requires.stands.shape.waits
+serve-requires-clause-waits g c = ap length c.as_mut_slice-waits.ensures.value ∙ c.requires.stands.stands.shape.waits
 
 pub let_in-come-requires-clause-store : goal.let_in-come-requires-clause-store
 let_in-come-requires-clause-store g c = c.requires.store ∙ sym c.links-all.ensures.value
 
 pub let_in-come-requires-clause-outside : goal.let_in-come-requires-clause-outside
-let_in-come-requires-clause-outside g c = ap length c.as_mut_slice-outside.ensures.value ∙ c.requires.stands.shape.outside ∙ sym c.links-all.ensures.value
+let_in-come-requires-clause-outside g c = ap length c.as_mut_slice-outside.ensures.value ∙ c.requires.stands.stands.shape.outside ∙ sym c.links-all.ensures.value
 
 pub let_in-come-requires-clause-held : goal.let_in-come-requires-clause-held
 let_in-come-requires-clause-held g c = c.discharge.ensures.links.held ∙ sym c.links-all.ensures.value
@@ -87,77 +84,77 @@ let_in-come-requires-clause-within g c l h = c.discharge.ensures.are.within l (r
 
 pub discharge-requires-clause-held : goal.discharge-requires-clause-held
 discharge-requires-clause-held g c =
-    let stands = stands-seen c.args.moment.now.net.now (arriving_of c.args.moment.now.arrivals.now) (slice_index c.args.moment.now.store.now) (signs_by (g.T.Lights.lines c.args.moment.now.lights.now)) (state_of c.args.links.now c.args.moment.now.second (length c.args.moment.now.signs.now) c.args.moment.now.totals)
+    let stands = stands-seen c.args.moment.now.net.now (arriving_of c.args.moment.now.arrivals.now) (slice_index c.args.moment.now.store.now) (signs_by (g.T.Lights.lines c.args.moment.now.lights.now)) (state_of c.args.links.now c.args.moment.now.second c.requires.stands.signs c.requires.stands.since c.args.moment.now.totals)
     c.as_mut_slice-queues.result.now c.as_mut_slice-recent.result.now c.as_mut_slice-waits.result.now c.args.links.now.stood.items c.as_mut_slice-outside.result.now c.as_mut_slice-held.result.now
-    c.as_mut_slice-queues.ensures.value c.as_mut_slice-recent.ensures.value c.as_mut_slice-waits.ensures.value refl c.as_mut_slice-outside.ensures.value c.as_mut_slice-held.ensures.value c.requires.stands in
-    are-held c.args.moment.now.net.now c.links-all.ensures.network (arriving_of c.args.moment.now.arrivals.now) c.args.moment.now.store.now (signs_by (g.T.Lights.lines c.args.moment.now.lights.now)) (few-of c.args.moment.now.net.now c.links-all.ensures.network c.args.moment.now.arrivals.now c.requires.arrivals) (sources-of c.args.moment.now.net.now c.args.moment.now.arrivals.now c.requires.arrivals) _ stands c.args.moment.now.signs.now c.serve.new.served c.reach_ends-out.new.leaving c.reach_ends-out.new.queues c.clear.new.amounts c.reach_ends-out.new.held (record { leaving = c.reach_ends-out.ensures.leaving; queues = c.reach_ends-out.ensures.queues; held = c.reach_ends-out.ensures.held; none = rw c.links-all.ensures.value at c.clear.ensures; serves = c.serve.ensures })
+    c.as_mut_slice-queues.ensures.value c.as_mut_slice-recent.ensures.value c.as_mut_slice-waits.ensures.value refl c.as_mut_slice-outside.ensures.value c.as_mut_slice-held.ensures.value c.requires.stands.stands in
+    are-held c.args.moment.now.net.now c.links-all.ensures.network (arriving_of c.args.moment.now.arrivals.now) c.args.moment.now.store.now (signs_by (g.T.Lights.lines c.args.moment.now.lights.now)) (few-of c.args.moment.now.net.now c.links-all.ensures.network c.args.moment.now.arrivals.now c.requires.arrivals) (sources-of c.args.moment.now.net.now c.args.moment.now.arrivals.now c.requires.arrivals) _ stands c.args.moment.now.signs.now c.args.moment.now.since.now c.serve.new.served c.reach_ends-out.new.leaving c.reach_ends-out.new.queues c.clear.new.amounts c.reach_ends-out.new.held (record { leaving = c.reach_ends-out.ensures.leaving; queues = c.reach_ends-out.ensures.queues; held = c.reach_ends-out.ensures.held; none = rw c.links-all.ensures.value at c.clear.ensures; serves = c.serve.ensures })
 
 pub let_in-come-requires-clause-fits : goal.let_in-come-requires-clause-fits
 let_in-come-requires-clause-fits g c l h =
-    let stands = stands-seen c.args.moment.now.net.now (arriving_of c.args.moment.now.arrivals.now) (slice_index c.args.moment.now.store.now) (signs_by (g.T.Lights.lines c.args.moment.now.lights.now)) (state_of c.args.links.now c.args.moment.now.second (length c.args.moment.now.signs.now) c.args.moment.now.totals)
+    let stands = stands-seen c.args.moment.now.net.now (arriving_of c.args.moment.now.arrivals.now) (slice_index c.args.moment.now.store.now) (signs_by (g.T.Lights.lines c.args.moment.now.lights.now)) (state_of c.args.links.now c.args.moment.now.second c.requires.stands.signs c.requires.stands.since c.args.moment.now.totals)
     c.as_mut_slice-queues.result.now c.as_mut_slice-recent.result.now c.as_mut_slice-waits.result.now c.args.links.now.stood.items c.as_mut_slice-outside.result.now c.as_mut_slice-held.result.now
-    c.as_mut_slice-queues.ensures.value c.as_mut_slice-recent.ensures.value c.as_mut_slice-waits.ensures.value refl c.as_mut_slice-outside.ensures.value c.as_mut_slice-held.ensures.value c.requires.stands in
+    c.as_mut_slice-queues.ensures.value c.as_mut_slice-recent.ensures.value c.as_mut_slice-waits.ensures.value refl c.as_mut_slice-outside.ensures.value c.as_mut_slice-held.ensures.value c.requires.stands.stands in
     let fits = outside-fits c.args.moment.now.net.now c.links-all.ensures.network (arriving_of c.args.moment.now.arrivals.now) c.args.moment.now.store.now (signs_by (g.T.Lights.lines c.args.moment.now.lights.now)) (few-of c.args.moment.now.net.now c.links-all.ensures.network c.args.moment.now.arrivals.now c.requires.arrivals) (sources-of c.args.moment.now.net.now c.args.moment.now.arrivals.now c.requires.arrivals) _ stands l (omega (arith, h, c.links-all.ensures.value)) in
     omega (arith, fits)
 
 pub remember-requires-clause-fits : goal.remember-requires-clause-fits
 remember-requires-clause-fits g c l h =
-    let stands = stands-seen c.args.moment.now.net.now (arriving_of c.args.moment.now.arrivals.now) (slice_index c.args.moment.now.store.now) (signs_by (g.T.Lights.lines c.args.moment.now.lights.now)) (state_of c.args.links.now c.args.moment.now.second (length c.args.moment.now.signs.now) c.args.moment.now.totals)
+    let stands = stands-seen c.args.moment.now.net.now (arriving_of c.args.moment.now.arrivals.now) (slice_index c.args.moment.now.store.now) (signs_by (g.T.Lights.lines c.args.moment.now.lights.now)) (state_of c.args.links.now c.args.moment.now.second c.requires.stands.signs c.requires.stands.since c.args.moment.now.totals)
     c.as_mut_slice-queues.result.now c.as_mut_slice-recent.result.now c.as_mut_slice-waits.result.now c.as_mut_slice.result.now c.as_mut_slice-outside.result.now c.as_mut_slice-held.result.now
-    c.as_mut_slice-queues.ensures.value c.as_mut_slice-recent.ensures.value c.as_mut_slice-waits.ensures.value c.as_mut_slice.ensures.value c.as_mut_slice-outside.ensures.value c.as_mut_slice-held.ensures.value c.requires.stands in
+    c.as_mut_slice-queues.ensures.value c.as_mut_slice-recent.ensures.value c.as_mut_slice-waits.ensures.value c.as_mut_slice.ensures.value c.as_mut_slice-outside.ensures.value c.as_mut_slice-held.ensures.value c.requires.stands.stands in
     stood-small c.args.moment.now.net.now c.links-all.ensures.network (arriving_of c.args.moment.now.arrivals.now) c.args.moment.now.store.now (signs_by (g.T.Lights.lines c.args.moment.now.lights.now)) (few-of c.args.moment.now.net.now c.links-all.ensures.network c.args.moment.now.arrivals.now c.requires.arrivals) (sources-of c.args.moment.now.net.now c.args.moment.now.arrivals.now c.requires.arrivals) _ stands c.requires.second l (omega (arith, h, c.links-all.ensures.value))
 
 pub overflow_add-entered : goal.overflow_add-entered
 overflow_add-entered g c =
-    let stands = stands-seen c.args.moment.now.net.now (arriving_of c.args.moment.now.arrivals.now) (slice_index c.args.moment.now.store.now) (signs_by (g.T.Lights.lines c.args.moment.now.lights.now)) (state_of c.args.links.now c.args.moment.now.second (length c.args.moment.now.signs.now) c.args.moment.now.totals)
+    let stands = stands-seen c.args.moment.now.net.now (arriving_of c.args.moment.now.arrivals.now) (slice_index c.args.moment.now.store.now) (signs_by (g.T.Lights.lines c.args.moment.now.lights.now)) (state_of c.args.links.now c.args.moment.now.second c.requires.stands.signs c.requires.stands.since c.args.moment.now.totals)
     c.as_mut_slice-queues.result.now c.as_mut_slice-recent.result.now c.as_mut_slice-waits.result.now c.as_mut_slice.result.now c.as_mut_slice-outside.result.now c.as_mut_slice-held.result.now
-    c.as_mut_slice-queues.ensures.value c.as_mut_slice-recent.ensures.value c.as_mut_slice-waits.ensures.value c.as_mut_slice.ensures.value c.as_mut_slice-outside.ensures.value c.as_mut_slice-held.ensures.value c.requires.stands in
-    let room = room-entered c.args.moment.now.net.now c.links-all.ensures.network (arriving_of c.args.moment.now.arrivals.now) c.args.moment.now.store.now (signs_by (g.T.Lights.lines c.args.moment.now.lights.now)) (few-of c.args.moment.now.net.now c.links-all.ensures.network c.args.moment.now.arrivals.now c.requires.arrivals) (sources-of c.args.moment.now.net.now c.args.moment.now.arrivals.now c.requires.arrivals) _ stands c.args.moment.now.signs.now c.serve.new.served c.reach_ends-out.new.leaving c.reach_ends-out.new.queues c.clear.new.amounts c.reach_ends-out.new.held (record { leaving = c.reach_ends-out.ensures.leaving; queues = c.reach_ends-out.ensures.queues; held = c.reach_ends-out.ensures.held; none = rw c.links-all.ensures.value at c.clear.ensures; serves = c.serve.ensures }) (begun-by c.args.moment.now.signs.now (length c.args.moment.now.net.now.node_names) (g.T.Lights.lines c.args.moment.now.lights.now) c.args.moment.now.second c.requires.signs) (seen-by c.args.moment.now.signs.now (length c.args.moment.now.net.now.node_names) (g.T.Lights.lines c.args.moment.now.lights.now) c.args.moment.now.second c.requires.signs) c.discharge.new.leaving c.discharge.new.queues c.discharge.new.entering c.discharge.new.held c.discharge.ensures in
+    c.as_mut_slice-queues.ensures.value c.as_mut_slice-recent.ensures.value c.as_mut_slice-waits.ensures.value c.as_mut_slice.ensures.value c.as_mut_slice-outside.ensures.value c.as_mut_slice-held.ensures.value c.requires.stands.stands in
+    let room = room-entered c.args.moment.now.net.now c.links-all.ensures.network (arriving_of c.args.moment.now.arrivals.now) c.args.moment.now.store.now (signs_by (g.T.Lights.lines c.args.moment.now.lights.now)) (few-of c.args.moment.now.net.now c.links-all.ensures.network c.args.moment.now.arrivals.now c.requires.arrivals) (sources-of c.args.moment.now.net.now c.args.moment.now.arrivals.now c.requires.arrivals) _ stands c.args.moment.now.signs.now c.args.moment.now.since.now c.serve.new.served c.reach_ends-out.new.leaving c.reach_ends-out.new.queues c.clear.new.amounts c.reach_ends-out.new.held (record { leaving = c.reach_ends-out.ensures.leaving; queues = c.reach_ends-out.ensures.queues; held = c.reach_ends-out.ensures.held; none = rw c.links-all.ensures.value at c.clear.ensures; serves = c.serve.ensures }) c.requires.second c.requires.since (seen-by c.args.moment.now.signs.now (length c.args.moment.now.net.now.node_names) (g.T.Lights.lines c.args.moment.now.lights.now) c.args.moment.now.second c.requires.signs) c.discharge.new.leaving c.discharge.new.queues c.discharge.new.entering c.discharge.new.held c.discharge.ensures in
     let come = rw c.links-all.ensures.value at c.let_in-come.ensures.all in
     omega (arith, room, come)
 
 pub overflow_add-left : goal.overflow_add-left
 overflow_add-left g c =
-    let stands = stands-seen c.args.moment.now.net.now (arriving_of c.args.moment.now.arrivals.now) (slice_index c.args.moment.now.store.now) (signs_by (g.T.Lights.lines c.args.moment.now.lights.now)) (state_of c.args.links.now c.args.moment.now.second (length c.args.moment.now.signs.now) c.args.moment.now.totals)
+    let stands = stands-seen c.args.moment.now.net.now (arriving_of c.args.moment.now.arrivals.now) (slice_index c.args.moment.now.store.now) (signs_by (g.T.Lights.lines c.args.moment.now.lights.now)) (state_of c.args.links.now c.args.moment.now.second c.requires.stands.signs c.requires.stands.since c.args.moment.now.totals)
     c.as_mut_slice-queues.result.now c.as_mut_slice-recent.result.now c.as_mut_slice-waits.result.now c.as_mut_slice.result.now c.as_mut_slice-outside.result.now c.as_mut_slice-held.result.now
-    c.as_mut_slice-queues.ensures.value c.as_mut_slice-recent.ensures.value c.as_mut_slice-waits.ensures.value c.as_mut_slice.ensures.value c.as_mut_slice-outside.ensures.value c.as_mut_slice-held.ensures.value c.requires.stands in
-    let room = room-entered c.args.moment.now.net.now c.links-all.ensures.network (arriving_of c.args.moment.now.arrivals.now) c.args.moment.now.store.now (signs_by (g.T.Lights.lines c.args.moment.now.lights.now)) (few-of c.args.moment.now.net.now c.links-all.ensures.network c.args.moment.now.arrivals.now c.requires.arrivals) (sources-of c.args.moment.now.net.now c.args.moment.now.arrivals.now c.requires.arrivals) _ stands c.args.moment.now.signs.now c.serve.new.served c.reach_ends-out.new.leaving c.reach_ends-out.new.queues c.clear.new.amounts c.reach_ends-out.new.held (record { leaving = c.reach_ends-out.ensures.leaving; queues = c.reach_ends-out.ensures.queues; held = c.reach_ends-out.ensures.held; none = rw c.links-all.ensures.value at c.clear.ensures; serves = c.serve.ensures }) (begun-by c.args.moment.now.signs.now (length c.args.moment.now.net.now.node_names) (g.T.Lights.lines c.args.moment.now.lights.now) c.args.moment.now.second c.requires.signs) (seen-by c.args.moment.now.signs.now (length c.args.moment.now.net.now.node_names) (g.T.Lights.lines c.args.moment.now.lights.now) c.args.moment.now.second c.requires.signs) c.discharge.new.leaving c.discharge.new.queues c.discharge.new.entering c.discharge.new.held c.discharge.ensures in
-    let less = room-left c.args.moment.now.net.now c.links-all.ensures.network (arriving_of c.args.moment.now.arrivals.now) c.args.moment.now.store.now (signs_by (g.T.Lights.lines c.args.moment.now.lights.now)) (few-of c.args.moment.now.net.now c.links-all.ensures.network c.args.moment.now.arrivals.now c.requires.arrivals) (sources-of c.args.moment.now.net.now c.args.moment.now.arrivals.now c.requires.arrivals) _ stands c.args.moment.now.signs.now c.serve.new.served c.reach_ends-out.new.leaving c.reach_ends-out.new.queues c.clear.new.amounts c.reach_ends-out.new.held (record { leaving = c.reach_ends-out.ensures.leaving; queues = c.reach_ends-out.ensures.queues; held = c.reach_ends-out.ensures.held; none = rw c.links-all.ensures.value at c.clear.ensures; serves = c.serve.ensures }) (begun-by c.args.moment.now.signs.now (length c.args.moment.now.net.now.node_names) (g.T.Lights.lines c.args.moment.now.lights.now) c.args.moment.now.second c.requires.signs) (seen-by c.args.moment.now.signs.now (length c.args.moment.now.net.now.node_names) (g.T.Lights.lines c.args.moment.now.lights.now) c.args.moment.now.second c.requires.signs) c.discharge.new.leaving c.discharge.new.queues c.discharge.new.entering c.discharge.new.held c.discharge.ensures in
+    c.as_mut_slice-queues.ensures.value c.as_mut_slice-recent.ensures.value c.as_mut_slice-waits.ensures.value c.as_mut_slice.ensures.value c.as_mut_slice-outside.ensures.value c.as_mut_slice-held.ensures.value c.requires.stands.stands in
+    let room = room-entered c.args.moment.now.net.now c.links-all.ensures.network (arriving_of c.args.moment.now.arrivals.now) c.args.moment.now.store.now (signs_by (g.T.Lights.lines c.args.moment.now.lights.now)) (few-of c.args.moment.now.net.now c.links-all.ensures.network c.args.moment.now.arrivals.now c.requires.arrivals) (sources-of c.args.moment.now.net.now c.args.moment.now.arrivals.now c.requires.arrivals) _ stands c.args.moment.now.signs.now c.args.moment.now.since.now c.serve.new.served c.reach_ends-out.new.leaving c.reach_ends-out.new.queues c.clear.new.amounts c.reach_ends-out.new.held (record { leaving = c.reach_ends-out.ensures.leaving; queues = c.reach_ends-out.ensures.queues; held = c.reach_ends-out.ensures.held; none = rw c.links-all.ensures.value at c.clear.ensures; serves = c.serve.ensures }) c.requires.second c.requires.since (seen-by c.args.moment.now.signs.now (length c.args.moment.now.net.now.node_names) (g.T.Lights.lines c.args.moment.now.lights.now) c.args.moment.now.second c.requires.signs) c.discharge.new.leaving c.discharge.new.queues c.discharge.new.entering c.discharge.new.held c.discharge.ensures in
+    let less = room-left c.args.moment.now.net.now c.links-all.ensures.network (arriving_of c.args.moment.now.arrivals.now) c.args.moment.now.store.now (signs_by (g.T.Lights.lines c.args.moment.now.lights.now)) (few-of c.args.moment.now.net.now c.links-all.ensures.network c.args.moment.now.arrivals.now c.requires.arrivals) (sources-of c.args.moment.now.net.now c.args.moment.now.arrivals.now c.requires.arrivals) _ stands c.args.moment.now.signs.now c.args.moment.now.since.now c.serve.new.served c.reach_ends-out.new.leaving c.reach_ends-out.new.queues c.clear.new.amounts c.reach_ends-out.new.held (record { leaving = c.reach_ends-out.ensures.leaving; queues = c.reach_ends-out.ensures.queues; held = c.reach_ends-out.ensures.held; none = rw c.links-all.ensures.value at c.clear.ensures; serves = c.serve.ensures }) c.requires.second c.requires.since (seen-by c.args.moment.now.signs.now (length c.args.moment.now.net.now.node_names) (g.T.Lights.lines c.args.moment.now.lights.now) c.args.moment.now.second c.requires.signs) c.discharge.new.leaving c.discharge.new.queues c.discharge.new.entering c.discharge.new.held c.discharge.ensures in
     omega (arith, room, less, c.reach_ends-out.ensures.out)
 
 pub overflow_sub-result : goal.overflow_sub-result
 overflow_sub-result g c =
-    let stands = stands-seen c.args.moment.now.net.now (arriving_of c.args.moment.now.arrivals.now) (slice_index c.args.moment.now.store.now) (signs_by (g.T.Lights.lines c.args.moment.now.lights.now)) (state_of c.args.links.now c.args.moment.now.second (length c.args.moment.now.signs.now) c.args.moment.now.totals)
+    let stands = stands-seen c.args.moment.now.net.now (arriving_of c.args.moment.now.arrivals.now) (slice_index c.args.moment.now.store.now) (signs_by (g.T.Lights.lines c.args.moment.now.lights.now)) (state_of c.args.links.now c.args.moment.now.second c.requires.stands.signs c.requires.stands.since c.args.moment.now.totals)
     c.as_mut_slice-queues.result.now c.as_mut_slice-recent.result.now c.as_mut_slice-waits.result.now c.as_mut_slice.result.now c.as_mut_slice-outside.result.now c.as_mut_slice-held.result.now
-    c.as_mut_slice-queues.ensures.value c.as_mut_slice-recent.ensures.value c.as_mut_slice-waits.ensures.value c.as_mut_slice.ensures.value c.as_mut_slice-outside.ensures.value c.as_mut_slice-held.ensures.value c.requires.stands in
-    let less = room-left c.args.moment.now.net.now c.links-all.ensures.network (arriving_of c.args.moment.now.arrivals.now) c.args.moment.now.store.now (signs_by (g.T.Lights.lines c.args.moment.now.lights.now)) (few-of c.args.moment.now.net.now c.links-all.ensures.network c.args.moment.now.arrivals.now c.requires.arrivals) (sources-of c.args.moment.now.net.now c.args.moment.now.arrivals.now c.requires.arrivals) _ stands c.args.moment.now.signs.now c.serve.new.served c.reach_ends-out.new.leaving c.reach_ends-out.new.queues c.clear.new.amounts c.reach_ends-out.new.held (record { leaving = c.reach_ends-out.ensures.leaving; queues = c.reach_ends-out.ensures.queues; held = c.reach_ends-out.ensures.held; none = rw c.links-all.ensures.value at c.clear.ensures; serves = c.serve.ensures }) (begun-by c.args.moment.now.signs.now (length c.args.moment.now.net.now.node_names) (g.T.Lights.lines c.args.moment.now.lights.now) c.args.moment.now.second c.requires.signs) (seen-by c.args.moment.now.signs.now (length c.args.moment.now.net.now.node_names) (g.T.Lights.lines c.args.moment.now.lights.now) c.args.moment.now.second c.requires.signs) c.discharge.new.leaving c.discharge.new.queues c.discharge.new.entering c.discharge.new.held c.discharge.ensures in
+    c.as_mut_slice-queues.ensures.value c.as_mut_slice-recent.ensures.value c.as_mut_slice-waits.ensures.value c.as_mut_slice.ensures.value c.as_mut_slice-outside.ensures.value c.as_mut_slice-held.ensures.value c.requires.stands.stands in
+    let less = room-left c.args.moment.now.net.now c.links-all.ensures.network (arriving_of c.args.moment.now.arrivals.now) c.args.moment.now.store.now (signs_by (g.T.Lights.lines c.args.moment.now.lights.now)) (few-of c.args.moment.now.net.now c.links-all.ensures.network c.args.moment.now.arrivals.now c.requires.arrivals) (sources-of c.args.moment.now.net.now c.args.moment.now.arrivals.now c.requires.arrivals) _ stands c.args.moment.now.signs.now c.args.moment.now.since.now c.serve.new.served c.reach_ends-out.new.leaving c.reach_ends-out.new.queues c.clear.new.amounts c.reach_ends-out.new.held (record { leaving = c.reach_ends-out.ensures.leaving; queues = c.reach_ends-out.ensures.queues; held = c.reach_ends-out.ensures.held; none = rw c.links-all.ensures.value at c.clear.ensures; serves = c.serve.ensures }) c.requires.second c.requires.since (seen-by c.args.moment.now.signs.now (length c.args.moment.now.net.now.node_names) (g.T.Lights.lines c.args.moment.now.lights.now) c.args.moment.now.second c.requires.signs) c.discharge.new.leaving c.discharge.new.queues c.discharge.new.entering c.discharge.new.held c.discharge.ensures in
     let come = rw c.links-all.ensures.value at c.let_in-come.ensures.all in
     omega (arith, less, come, c.reach_ends-out.ensures.out)
 
 pub overflow_add-result-2 : goal.overflow_add-result-2
 overflow_add-result-2 g c =
-    let stands = stands-seen c.args.moment.now.net.now (arriving_of c.args.moment.now.arrivals.now) (slice_index c.args.moment.now.store.now) (signs_by (g.T.Lights.lines c.args.moment.now.lights.now)) (state_of c.args.links.now c.args.moment.now.second (length c.args.moment.now.signs.now) c.args.moment.now.totals)
+    let stands = stands-seen c.args.moment.now.net.now (arriving_of c.args.moment.now.arrivals.now) (slice_index c.args.moment.now.store.now) (signs_by (g.T.Lights.lines c.args.moment.now.lights.now)) (state_of c.args.links.now c.args.moment.now.second c.requires.stands.signs c.requires.stands.since c.args.moment.now.totals)
     c.as_mut_slice-queues.result.now c.as_mut_slice-recent.result.now c.as_mut_slice-waits.result.now c.as_mut_slice.result.now c.as_mut_slice-outside.result.now c.as_mut_slice-held.result.now
-    c.as_mut_slice-queues.ensures.value c.as_mut_slice-recent.ensures.value c.as_mut_slice-waits.ensures.value c.as_mut_slice.ensures.value c.as_mut_slice-outside.ensures.value c.as_mut_slice-held.ensures.value c.requires.stands in
+    c.as_mut_slice-queues.ensures.value c.as_mut_slice-recent.ensures.value c.as_mut_slice-waits.ensures.value c.as_mut_slice.ensures.value c.as_mut_slice-outside.ensures.value c.as_mut_slice-held.ensures.value c.requires.stands.stands in
     let most = delay-most c.args.moment.now.net.now c.links-all.ensures.network (arriving_of c.args.moment.now.arrivals.now) c.args.moment.now.store.now (signs_by (g.T.Lights.lines c.args.moment.now.lights.now)) (few-of c.args.moment.now.net.now c.links-all.ensures.network c.args.moment.now.arrivals.now c.requires.arrivals) (sources-of c.args.moment.now.net.now c.args.moment.now.arrivals.now c.requires.arrivals) _ stands in
     let few = c.links-all.ensures.network.outline.link_count.1 in
     omega (arith, most, few, c.links-all.ensures.value, c.sum-outside.ensures.most, c.sum.ensures.most)
 
 pub returns-clause-whole : goal.returns-clause-whole
 returns-clause-whole g c =
-    let stands = stands-seen c.args.moment.now.net.now (arriving_of c.args.moment.now.arrivals.now) (slice_index c.args.moment.now.store.now) (signs_by (g.T.Lights.lines c.args.moment.now.lights.now)) (state_of c.args.links.now c.args.moment.now.second (length c.args.moment.now.signs.now) c.args.moment.now.totals)
+    let stands = stands-seen c.args.moment.now.net.now (arriving_of c.args.moment.now.arrivals.now) (slice_index c.args.moment.now.store.now) (signs_by (g.T.Lights.lines c.args.moment.now.lights.now)) (state_of c.args.links.now c.args.moment.now.second c.requires.stands.signs c.requires.stands.since c.args.moment.now.totals)
     c.as_mut_slice-queues.result.now c.as_mut_slice-recent.result.now c.as_mut_slice-waits.result.now c.as_mut_slice.result.now c.as_mut_slice-outside.result.now c.as_mut_slice-held.result.now
-    c.as_mut_slice-queues.ensures.value c.as_mut_slice-recent.ensures.value c.as_mut_slice-waits.ensures.value c.as_mut_slice.ensures.value c.as_mut_slice-outside.ensures.value c.as_mut_slice-held.ensures.value c.requires.stands in
-    let less = room-left c.args.moment.now.net.now c.links-all.ensures.network (arriving_of c.args.moment.now.arrivals.now) c.args.moment.now.store.now (signs_by (g.T.Lights.lines c.args.moment.now.lights.now)) (few-of c.args.moment.now.net.now c.links-all.ensures.network c.args.moment.now.arrivals.now c.requires.arrivals) (sources-of c.args.moment.now.net.now c.args.moment.now.arrivals.now c.requires.arrivals) _ stands c.args.moment.now.signs.now c.serve.new.served c.reach_ends-out.new.leaving c.reach_ends-out.new.queues c.clear.new.amounts c.reach_ends-out.new.held (record { leaving = c.reach_ends-out.ensures.leaving; queues = c.reach_ends-out.ensures.queues; held = c.reach_ends-out.ensures.held; none = rw c.links-all.ensures.value at c.clear.ensures; serves = c.serve.ensures }) (begun-by c.args.moment.now.signs.now (length c.args.moment.now.net.now.node_names) (g.T.Lights.lines c.args.moment.now.lights.now) c.args.moment.now.second c.requires.signs) (seen-by c.args.moment.now.signs.now (length c.args.moment.now.net.now.node_names) (g.T.Lights.lines c.args.moment.now.lights.now) c.args.moment.now.second c.requires.signs) c.discharge.new.leaving c.discharge.new.queues c.discharge.new.entering c.discharge.new.held c.discharge.ensures in
+    c.as_mut_slice-queues.ensures.value c.as_mut_slice-recent.ensures.value c.as_mut_slice-waits.ensures.value c.as_mut_slice.ensures.value c.as_mut_slice-outside.ensures.value c.as_mut_slice-held.ensures.value c.requires.stands.stands in
+    let less = room-left c.args.moment.now.net.now c.links-all.ensures.network (arriving_of c.args.moment.now.arrivals.now) c.args.moment.now.store.now (signs_by (g.T.Lights.lines c.args.moment.now.lights.now)) (few-of c.args.moment.now.net.now c.links-all.ensures.network c.args.moment.now.arrivals.now c.requires.arrivals) (sources-of c.args.moment.now.net.now c.args.moment.now.arrivals.now c.requires.arrivals) _ stands c.args.moment.now.signs.now c.args.moment.now.since.now c.serve.new.served c.reach_ends-out.new.leaving c.reach_ends-out.new.queues c.clear.new.amounts c.reach_ends-out.new.held (record { leaving = c.reach_ends-out.ensures.leaving; queues = c.reach_ends-out.ensures.queues; held = c.reach_ends-out.ensures.held; none = rw c.links-all.ensures.value at c.clear.ensures; serves = c.serve.ensures }) c.requires.second c.requires.since (seen-by c.args.moment.now.signs.now (length c.args.moment.now.net.now.node_names) (g.T.Lights.lines c.args.moment.now.lights.now) c.args.moment.now.second c.requires.signs) c.discharge.new.leaving c.discharge.new.queues c.discharge.new.entering c.discharge.new.held c.discharge.ensures in
     let come = rw c.links-all.ensures.value at c.let_in-come.ensures.all in
     omega (arith, less, come, c.reach_ends-out.ensures.out)
 
 pub returns-clause-stands : goal.returns-clause-stands
 returns-clause-stands g c =
-    let stands = stands-seen c.args.moment.now.net.now (arriving_of c.args.moment.now.arrivals.now) (slice_index c.args.moment.now.store.now) (signs_by (g.T.Lights.lines c.args.moment.now.lights.now)) (state_of c.args.links.now c.args.moment.now.second (length c.args.moment.now.signs.now) c.args.moment.now.totals)
+    let stands = stands-seen c.args.moment.now.net.now (arriving_of c.args.moment.now.arrivals.now) (slice_index c.args.moment.now.store.now) (signs_by (g.T.Lights.lines c.args.moment.now.lights.now)) (state_of c.args.links.now c.args.moment.now.second c.requires.stands.signs c.requires.stands.since c.args.moment.now.totals)
     c.as_mut_slice-queues.result.now c.as_mut_slice-recent.result.now c.as_mut_slice-waits.result.now c.as_mut_slice.result.now c.as_mut_slice-outside.result.now c.as_mut_slice-held.result.now
-    c.as_mut_slice-queues.ensures.value c.as_mut_slice-recent.ensures.value c.as_mut_slice-waits.ensures.value c.as_mut_slice.ensures.value c.as_mut_slice-outside.ensures.value c.as_mut_slice-held.ensures.value c.requires.stands in
-    let s = c.requires.stands.shape in
+    c.as_mut_slice-queues.ensures.value c.as_mut_slice-recent.ensures.value c.as_mut_slice-waits.ensures.value c.as_mut_slice.ensures.value c.as_mut_slice-outside.ensures.value c.as_mut_slice-held.ensures.value c.requires.stands.stands in
+    let s = c.requires.stands.stands.shape in
     let queues : length c.discharge.new.queues ≡ length c.args.moment.now.net.now.link_names = c.discharge.ensures.links.queues in
     let recent : length c.let_in-come.new.recent ≡ length c.args.moment.now.net.now.link_names * 128 = c.let_in-come.auto.recent ∙ ap length c.as_mut_slice-recent.ensures.value ∙ s.recent in
     let waits : length c.remember.new.waits ≡ length c.args.moment.now.net.now.link_names * 128 = c.remember.auto.waits ∙ ap length c.as_mut_slice-waits.ensures.value ∙ s.waits in
@@ -166,7 +163,8 @@ returns-clause-stands g c =
     let held : length c.let_in-come.new.held ≡ length c.args.moment.now.net.now.link_names = c.let_in-come.auto.held ∙ c.discharge.ensures.links.held in
     let v : SpillState = record {
       second = c.args.moment.now.second + 1;
-      nodes = length c.args.moment.now.signs.now;
+      signs = c.args.moment.now.signs.now;
+      since = c.args.moment.now.since.now;
       queues = c.discharge.new.queues;
       recent = c.let_in-come.new.recent;
       waits = c.remember.new.waits;
@@ -188,7 +186,7 @@ returns-clause-stands g c =
     (with_items_is c.args.links.now.stood c.remember.new.stood (omega (arith, stood, s.stood, c.args.links.now.stood.ok.0)))
     (with_items_is c.args.links.now.outside c.let_in-come.new.outside (omega (arith, outside, s.outside, c.args.links.now.outside.ok.0)))
     (with_items_is c.args.links.now.held c.let_in-come.new.held (omega (arith, held, s.held, c.args.links.now.held.ok.0)))
-    (stands-next c.args.moment.now.net.now c.links-all.ensures.network (arriving_of c.args.moment.now.arrivals.now) c.args.moment.now.store.now (signs_by (g.T.Lights.lines c.args.moment.now.lights.now)) (few-of c.args.moment.now.net.now c.links-all.ensures.network c.args.moment.now.arrivals.now c.requires.arrivals) (sources-of c.args.moment.now.net.now c.args.moment.now.arrivals.now c.requires.arrivals) _ stands c.args.moment.now.signs.now c.serve.new.served c.reach_ends-out.new.leaving c.reach_ends-out.new.queues c.clear.new.amounts c.reach_ends-out.new.held (record { leaving = c.reach_ends-out.ensures.leaving; queues = c.reach_ends-out.ensures.queues; held = c.reach_ends-out.ensures.held; none = rw c.links-all.ensures.value at c.clear.ensures; serves = c.serve.ensures }) (begun-by c.args.moment.now.signs.now (length c.args.moment.now.net.now.node_names) (g.T.Lights.lines c.args.moment.now.lights.now) c.args.moment.now.second c.requires.signs) (seen-by c.args.moment.now.signs.now (length c.args.moment.now.net.now.node_names) (g.T.Lights.lines c.args.moment.now.lights.now) c.args.moment.now.second c.requires.signs) c.discharge.new.leaving c.discharge.new.queues c.discharge.new.entering c.discharge.new.held c.discharge.ensures
+    (stands-next c.args.moment.now.net.now c.links-all.ensures.network (arriving_of c.args.moment.now.arrivals.now) c.args.moment.now.store.now (signs_by (g.T.Lights.lines c.args.moment.now.lights.now)) (few-of c.args.moment.now.net.now c.links-all.ensures.network c.args.moment.now.arrivals.now c.requires.arrivals) (sources-of c.args.moment.now.net.now c.args.moment.now.arrivals.now c.requires.arrivals) _ stands c.args.moment.now.signs.now c.args.moment.now.since.now c.serve.new.served c.reach_ends-out.new.leaving c.reach_ends-out.new.queues c.clear.new.amounts c.reach_ends-out.new.held (record { leaving = c.reach_ends-out.ensures.leaving; queues = c.reach_ends-out.ensures.queues; held = c.reach_ends-out.ensures.held; none = rw c.links-all.ensures.value at c.clear.ensures; serves = c.serve.ensures }) c.requires.second c.requires.since (seen-by c.args.moment.now.signs.now (length c.args.moment.now.net.now.node_names) (g.T.Lights.lines c.args.moment.now.lights.now) c.args.moment.now.second c.requires.signs) c.discharge.new.leaving c.discharge.new.queues c.discharge.new.entering c.discharge.new.held c.discharge.ensures
     v
     (record {
       outside = rw c.links-all.ensures.value at c.let_in-come.ensures.outside;
@@ -199,8 +197,8 @@ returns-clause-stands g c =
       remembers_others = c.remember.ensures.others;
       stands = rw c.links-all.ensures.value at c.remember.ensures.stood;
     })
-    c.requires.second refl refl
-    (record { nodes = s.nodes; queues = queues; recent = recent; waits = waits; stood = stood; outside = outside; held = held })
+    refl refl refl refl
+    (record { signs = c.requires.nodes; since = c.requires.links; queues = queues; recent = recent; waits = waits; stood = stood; outside = outside; held = held })
     (let come = rw c.links-all.ensures.value at c.let_in-come.ensures.all in omega (arith, come))
     (omega (arith, c.reach_ends-out.ensures.out))
     refl
