@@ -33,6 +33,7 @@ pub record HasOptions (run : Run) : Type 0 where
   pub hold : IfSome run.hold (λ hold. (1 ≤ hold) × (hold ≤ 20))
   pub recall : IfSome run.recall (λ recall. (1 ≤ recall) × (recall ≤ 3600))
   pub act_step : IfSome run.act_step (IsActStep run.step)
+  pub rate : IfSome run.rate (λ rate. (1 ≤ rate) × (rate ≤ 1000))
 
 -- a test of bounds answers Ok where the fact holds, and otherwise names a place where `why` holds
 abbrev pub Checks : Type 0 → (Place → Type 0) → Result (Unit {0}) NetFault → Type 0

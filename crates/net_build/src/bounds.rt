@@ -69,6 +69,7 @@ fn has_options(run: &Run) -> bool
         && run
             .act_step
             .is_none_or(|act_step| is_act_step(run.step, act_step))
+        && run.rate.is_none_or(|rate| (1..=1000).contains(&rate))
 }
 
 /// Whether actuated control may have this step, where the rounds of the run have `step` seconds.

@@ -15,7 +15,7 @@ use toml::Table;
 const VERSION: u32 = 2;
 
 /// The network file of a draft, of version 2: it has every mark and weight, and of what else may be absent `split`
-/// where it is true, `age`, `hold`, `recall`, `act_step` and the ends of links where the draft has them, and an array where it is not
+/// where it is true, `age`, `hold`, `recall`, `act_step`, `rate` and the ends of links where the draft has them, and an array where it is not
 /// empty. `Err`: out of memory.
 ///
 /// docs/FORMATS.md, "Network file".

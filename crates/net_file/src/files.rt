@@ -60,7 +60,7 @@ fn parse_draft(alloc: Global, bytes: &[u8]) -> Result<Draft, NetFault>
 }
 
 /// The network file of a network, of version 2: it has every mark and weight, and of what else may be absent `split`
-/// where it is true, `age`, `hold`, `recall`, `act_step` and the ends of links where the network has them, and an array where it is not
+/// where it is true, `age`, `hold`, `recall`, `act_step`, `rate` and the ends of links where the network has them, and an array where it is not
 /// empty. What is read from it is this very network, with the same value of every accessor. No file names further links of a
 /// phase yet, so the network has none. `Err`: out of memory.
 ///

@@ -129,7 +129,8 @@ impl Element for Run {
         put_number_if(alloc, table, "age", self.age)?;
         put_number_if(alloc, table, "hold", self.hold)?;
         put_number_if(alloc, table, "recall", self.recall)?;
-        put_number_if(alloc, table, "act_step", self.act_step)
+        put_number_if(alloc, table, "act_step", self.act_step)?;
+        put_number_if(alloc, table, "rate", self.rate)
     }
 }
 

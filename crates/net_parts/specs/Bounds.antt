@@ -36,6 +36,7 @@ pub record IsRun (run : Run) : Type 0 where
   pub hold : IfSome run.hold (λ hold. (1 ≤ hold) × (hold ≤ 20))
   pub recall : IfSome run.recall (λ recall. (1 ≤ recall) × (recall ≤ 3600))
   pub act_step : IfSome run.act_step (IsActStep run.step)
+  pub rate : IfSome run.rate (λ rate. (1 ≤ rate) × (rate ≤ 1000))
 
 -- a phase and how many links it names, as served and as green also
 pub record IsBoundedPhase (p : DraftPhase) : Type 0 where

@@ -33,6 +33,9 @@ pub struct Run {
     /// The seconds after which actuated control looks again, 1 to 30 and a divisor of `step`; none where the file does not
     /// say it, which is `step` (docs/RULES.md, "Actuated control").
     pub act_step: Option<u32>,
+    /// How much has to leave in a second of a cluster beside the greatest second before it, in thousandths, 1 to 1000; none
+    /// where the file does not say it (docs/RULES.md, "Streets under load").
+    pub rate: Option<u32>,
 }
 
 impl CrossesThreads for Run {}

@@ -16,20 +16,21 @@ both a b = a >>= λ x. b >>= λ y. Some (x, y)
 abbrev three : {X : Type 0} → Option X → Option X → Option X → Option (X × X × X)
 three a b c = both a b >>= λ p. c >>= λ z. Some (p.0, p.1, z)
 
--- four options, another one, two more and two more, in pairs
-pairs-run : {X Y Z W : Type 0} (a b c d : Option X) (e : Option Y) (f g h i : Option Z) (k : X → X → X → X → Y → Z → Z → Z → Z → W)
-    → (a >>= λ a. b >>= λ b. c >>= λ c. d >>= λ d. e >>= λ e. f >>= λ f. g >>= λ g. h >>= λ h. i >>= λ i. Some (k a b c d e f g h i))
-    ≡ (both a b >>= λ p. both c d >>= λ q. e >>= λ e. both f g >>= λ r. both h i >>= λ s. Some (k p.0 p.1 q.0 q.1 e r.0 r.1 s.0 s.1))
-pairs-run None b c d e f g h i k = refl
-pairs-run (Some a) None c d e f g h i k = refl
-pairs-run (Some a) (Some b) None d e f g h i k = refl
-pairs-run (Some a) (Some b) (Some c) None e f g h i k = refl
-pairs-run (Some a) (Some b) (Some c) (Some d) None f g h i k = refl
-pairs-run (Some a) (Some b) (Some c) (Some d) (Some e) None g h i k = refl
-pairs-run (Some a) (Some b) (Some c) (Some d) (Some e) (Some f) None h i k = refl
-pairs-run (Some a) (Some b) (Some c) (Some d) (Some e) (Some f) (Some g) None i k = refl
-pairs-run (Some a) (Some b) (Some c) (Some d) (Some e) (Some f) (Some g) (Some h) None k = refl
-pairs-run (Some a) (Some b) (Some c) (Some d) (Some e) (Some f) (Some g) (Some h) (Some i) k = refl
+-- four options, another one, two more and two more, in pairs, and another one
+pairs-run : {X Y Z W : Type 0} (a b c d : Option X) (e : Option Y) (f g h i j : Option Z) (k : X → X → X → X → Y → Z → Z → Z → Z → Z → W)
+    → (a >>= λ a. b >>= λ b. c >>= λ c. d >>= λ d. e >>= λ e. f >>= λ f. g >>= λ g. h >>= λ h. i >>= λ i. j >>= λ j. Some (k a b c d e f g h i j))
+    ≡ (both a b >>= λ p. both c d >>= λ q. e >>= λ e. both f g >>= λ r. both h i >>= λ s. j >>= λ j. Some (k p.0 p.1 q.0 q.1 e r.0 r.1 s.0 s.1 j))
+pairs-run None b c d e f g h i j k = refl
+pairs-run (Some a) None c d e f g h i j k = refl
+pairs-run (Some a) (Some b) None d e f g h i j k = refl
+pairs-run (Some a) (Some b) (Some c) None e f g h i j k = refl
+pairs-run (Some a) (Some b) (Some c) (Some d) None f g h i j k = refl
+pairs-run (Some a) (Some b) (Some c) (Some d) (Some e) None g h i j k = refl
+pairs-run (Some a) (Some b) (Some c) (Some d) (Some e) (Some f) None h i j k = refl
+pairs-run (Some a) (Some b) (Some c) (Some d) (Some e) (Some f) (Some g) None i j k = refl
+pairs-run (Some a) (Some b) (Some c) (Some d) (Some e) (Some f) (Some g) (Some h) None j k = refl
+pairs-run (Some a) (Some b) (Some c) (Some d) (Some e) (Some f) (Some g) (Some h) (Some i) None k = refl
+pairs-run (Some a) (Some b) (Some c) (Some d) (Some e) (Some f) (Some g) (Some h) (Some i) (Some j) k = refl
 
 -- six options and another one, in pairs as one, and then one more
 pairs-phase : {X Y Z P W : Type 0} (a b c d e f : Option X) (g : Option Y) (h : Option Z) (m : X → X → X → X → X → X → Y → P) (k : P → Z → W)
@@ -62,9 +63,9 @@ unfolding run_of run_fields numbers_at optional_numbers_at
 run-by_fields ms inner is =
     rw (← is)
     (pairs-run (number_at (codes "step") inner) (number_at (codes "look") inner) (number_at (codes "gap") inner) (number_at (codes "rounds") inner) (flag_at false (codes "split") inner) (optional_number_at (codes "age") inner) (optional_number_at (codes "hold") inner) (optional_number_at (codes "recall") inner)
-    (optional_number_at (codes "act_step") inner)
-    (λ step look gap rounds split age hold recall act_step.
-    let run : Run = record { step = step; look = look; gap = gap; rounds = rounds; split = split; age = age; hold = hold; recall = recall; act_step = act_step } in run))
+    (optional_number_at (codes "act_step") inner) (optional_number_at (codes "rate") inner)
+    (λ step look gap rounds split age hold recall act_step rate.
+    let run : Run = record { step = step; look = look; gap = gap; rounds = rounds; split = split; age = age; hold = hold; recall = recall; act_step = act_step; rate = rate } in run))
 
 -- the own form of a phase, in such a table
 pub phase-by_fields : (complete : Bool) (d : Data) (ms inner : Members) → Some ms ≡ as_table d → Some inner ≡ only phase_keys ms → phase_form complete d ≡ phase_fields complete inner

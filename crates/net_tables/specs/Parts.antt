@@ -28,7 +28,8 @@ run_fields ms = do
   split ← flag_at false (codes "split") ms
   limits ← optional_numbers_at (codes "age") (codes "hold") ms
   further ← optional_numbers_at (codes "recall") (codes "act_step") ms
-  Some (record { step = ahead.0; look = ahead.1; gap = course.0; rounds = course.1; split = split; age = limits.0; hold = limits.1; recall = further.0; act_step = further.1 })
+  rate ← optional_number_at (codes "rate") ms
+  Some (record { step = ahead.0; look = ahead.1; gap = course.0; rounds = course.1; split = split; age = limits.0; hold = limits.1; recall = further.0; act_step = further.1; rate = rate })
 
 -- the times and the mark of a phase
 unfoldable pub phase_times : Bool → Members → Option Phase

@@ -113,10 +113,10 @@ optional_list_at key ms = list_if (get_member key ms)
 
 -- the keys of a run
 unfoldable pub run_keys : List (List ℕ)
-run_keys = codes "step" ∷ codes "look" ∷ codes "gap" ∷ codes "rounds" ∷ codes "split" ∷ codes "age" ∷ codes "hold" ∷ codes "recall" ∷ codes "act_step" ∷ []
+run_keys = codes "step" ∷ codes "look" ∷ codes "gap" ∷ codes "rounds" ∷ codes "split" ∷ codes "age" ∷ codes "hold" ∷ codes "recall" ∷ codes "act_step" ∷ codes "rate" ∷ []
 
 -- the run of a table that has its keys and no other, each of its kind, as all tables below must; `split`, `age`, `hold`,
--- `recall` and `act_step` may be absent in every file
+-- `recall`, `act_step` and `rate` may be absent in every file
 unfoldable pub run_of : Members → Option Run
 run_of ms = do
   ms ← only run_keys ms
@@ -129,7 +129,8 @@ run_of ms = do
   hold ← optional_number_at (codes "hold") ms
   recall ← optional_number_at (codes "recall") ms
   act_step ← optional_number_at (codes "act_step") ms
-  Some (record { step = step; look = look; gap = gap; rounds = rounds; split = split; age = age; hold = hold; recall = recall; act_step = act_step })
+  rate ← optional_number_at (codes "rate") ms
+  Some (record { step = step; look = look; gap = gap; rounds = rounds; split = split; age = age; hold = hold; recall = recall; act_step = act_step; rate = rate })
 
 -- the keys of a phase
 unfoldable pub phase_keys : List (List ℕ)

@@ -65,6 +65,7 @@ fn run_fields(table: &Table) -> Option<Run>
     let split = flag_at(table, "split", false)?;
     let (age, hold) = optional_numbers_at(table, "age", "hold")?;
     let (recall, act_step) = optional_numbers_at(table, "recall", "act_step")?;
+    let rate = optional_number_at(table, "rate")?;
     Some(Run {
         step,
         look,
@@ -75,6 +76,7 @@ fn run_fields(table: &Table) -> Option<Run>
         hold,
         recall,
         act_step,
+        rate,
     })
 }
 
@@ -84,7 +86,7 @@ fn only_run_keys(table: &Table) -> Option<&Table>
     ensures { option_map (λ table. table_view table.now) result ≡ spec.only spec.run_keys (table_view table.now) }
 {
     let keys = [
-        "step", "look", "gap", "rounds", "split", "age", "hold", "recall", "act_step",
+        "step", "look", "gap", "rounds", "split", "age", "hold", "recall", "act_step", "rate",
     ];
     only(table, &keys)
 }

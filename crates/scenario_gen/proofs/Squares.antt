@@ -10,7 +10,7 @@ use Rattle.scenario_gen.specs.Layout.{IsSide, entry_roads, nodes, number_of}
 use Rattle.scenario_gen.proofs.Legal.{HasNetwork, is_legal, legal-by}
 
 run-within : (rounds : ℕ) → AreRounds rounds → IsRun (run rounds)
-run-within rounds are = record { step = (omega arith, omega arith); look = (omega arith, omega arith); within = omega arith; gap = omega arith; rounds = (are.least, are.most); age = tt; hold = tt; recall = tt; act_step = tt }
+run-within rounds are = record { step = (omega arith, omega arith); look = (omega arith, omega arith); within = omega arith; gap = omega arith; rounds = (are.least, are.most); age = tt; hold = tt; recall = tt; act_step = tt; rate = tt }
 
 -- the number that decimal digits and, after `_`, the number of a direction stand for
 abbrev with_direction : ℕ → List ℕ → ℕ

@@ -64,7 +64,7 @@ conflicts side k = conflicts_of (phase_roads side k 0) (phase_roads side k 1)
 
 -- the run: rounds of 5 seconds that look 60 seconds ahead, with gaps of at most 2, and none of the keys that may be absent
 abbrev pub run : ℕ → Run
-run rounds = record { step = 5; look = 60; gap = 2; rounds = rounds; split = false; age = None; hold = None; recall = None; act_step = None }
+run rounds = record { step = 5; look = 60; gap = 2; rounds = rounds; split = false; age = None; hold = None; recall = None; act_step = None; rate = None }
 
 -- the grid with `side` nodes a side, for `rounds` rounds
 abbrev pub grid_draft : ℕ → ℕ → Draft

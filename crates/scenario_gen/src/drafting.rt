@@ -60,6 +60,7 @@ fn draft_of(alloc: Global, side: u32, rounds: u32, roads: &[Road]) -> Result<Dra
             hold: None,
             recall: None,
             act_step: None,
+            rate: None,
         },
         nodes,
         links,

@@ -19,7 +19,7 @@ link home = record { from = None; to = Some 0; travel = 10; sat = 500; weight = 
 net : Net
 unfolding phase link
 net = record {
-  run = record { step = 5; look = 60; gap = 2; rounds = 6; split = false; age = None; hold = None; act_step = None; recall = None };
+  run = record { step = 5; look = 60; gap = 2; rounds = 6; split = false; age = None; hold = None; act_step = None; rate = None; recall = None };
   node_names = (97 ∷ []) ∷ [];
   plans = (phase ∷ phase ∷ phase ∷ []) ∷ [];
   phase_links = ((0 ∷ []) ∷ (1 ∷ []) ∷ (2 ∷ []) ∷ []) ∷ [];

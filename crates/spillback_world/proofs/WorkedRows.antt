@@ -14,7 +14,7 @@ phase = record { least = 5; greatest = 30; yellow = 3; clear = 2; loss = 2; wait
 net : Net
 unfolding phase
 net = record {
-  run = record { step = 5; look = 30; gap = 1; rounds = 4; split = false; age = None; hold = None; recall = None; act_step = None };
+  run = record { step = 5; look = 30; gap = 1; rounds = 4; split = false; age = None; hold = None; recall = None; act_step = None; rate = None };
   node_names = (97 ∷ []) ∷ (98 ∷ []) ∷ [];
   plans = (phase ∷ phase ∷ []) ∷ (phase ∷ phase ∷ []) ∷ [];
   phase_links = ((2 ∷ []) ∷ (0 ∷ []) ∷ []) ∷ ((1 ∷ []) ∷ (3 ∷ []) ∷ []) ∷ [];
