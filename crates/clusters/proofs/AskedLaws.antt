@@ -1,10 +1,12 @@
 -- What a network asks of platoons beside the rules, and that it leaves them what planning and forecasting ask.
 use Rattle.std.proofs.Common.{◌≡◌, ℕ, zero, suc, ◌+◌, ◌-◌, ◌*◌, ◌<◌, ◌≤◌, ◌==◌, ◌&&◌, if◌then◌else◌, nat_le, Bool, true, false, List, [], ◌∷◌, Option, Some, None, All, length, refl, sym, ap, subst, ◌∙◌, arith}
+use Rattle.std.specs.Prelude.{unwrap_or}
 use Rattle.std.proofs.Math.Nat.{le-min, min-le_left}
 use Rattle.std.proofs.lemmas.Nat.{mul-le}
 use Rattle.std.proofs.lemmas.List.Elements.{All-cons, All-head, All-tail}
 use Rattle.board_model.specs.declared.boards.Heard.{Heard}
 use Rattle.phase_plan.specs.Phases.{phase_at}
+use Rattle.phase_plan.specs.declared.Phase.{Phase}
 use Rattle.switch_rules.specs.Bounds.{greatest_weight}
 use Rattle.switch_rules.specs.Sequences.{cluster_at}
 use Rattle.switch_rules.specs.Serving.{IsCluster}
@@ -19,31 +21,48 @@ use Rattle.clusters.specs.Cuts.{filled, first_of}
 use Rattle.clusters.specs.Platoons.{ArePlatoons, ArePlatoonsBy, ArePlatoonsOf, load_of, most_of, platoons_at, streams_of, together}
 use Rattle.clusters.specs.Sound.{AreOfNode, AreSoundOf, AreSpacedClusters, IsPlatoon, cluster_lists, clusters_of}
 use Rattle.clusters.specs.Steps.{ArePlatoonsAsked, IsAge, IsHold, span_with}
-use Rattle.clusters.specs.Options.{AreExpected, AreExpectedIn, AsksNothing, aged_load_of, with_held_load, with_hold, span_in_green, span_of, first_with_hold}
+use Rattle.clusters.specs.Options.{AreExpected, AreExpectedIn, AsksNothing, aged_load_of, rate_of, with_held_load, with_hold, span_in_green, span_of, first_with_hold}
 use Rattle.clusters.specs.Windows.{IsRising}
 use Rattle.clusters.proofs.LoadLaws.{aged_load-none}
 use Rattle.clusters.proofs.PlatoonLaws.{ArePhases, aged-sound, phases-clusters, phases-node, phases-rising}
 
 -- what is asked leaves the platoons of a phase what planning and forecasting ask
-pub asked-sound : (age : Option ℕ) (split : Option Head) (net : Net) (node phase : ℕ) (sensed : Sensed) (heard : List Heard) (list : List Platoon)
+pub asked-sound : (age : Option ℕ) (rate : ℕ) (split : Option Head) (net : Net) (node phase : ℕ) (sensed : Sensed) (heard : List Heard) (list : List Platoon)
     → IsNetwork net → sensed.now ≤ 18000 → node < length net.node_names → phase < length (plan_at net node) → IsAge age
-    → ArePlatoonsAsked age split net node phase sensed heard list → AreSoundOf net node phase sensed.now list
-asked-sound age split net node phase sensed heard list h early there exists ok are =
-    aged-sound age net.run.gap
+    → ArePlatoonsAsked age rate split net node phase sensed heard list → AreSoundOf net node phase sensed.now list
+asked-sound age rate split net node phase sensed heard list h early there exists ok are =
+    aged-sound age net.run.gap rate
     (span_with split (phase_at (plan_at net node) phase).greatest (most_of net node phase) sensed.now (together (streams_of net sensed heard (phase_links_at net node phase)) net.run.look))
     net node phase sensed heard list h early there exists ok are
 
+-- what is cut by this network's numbers of what its streams bring is what is asked
+pub asked-made : (age : Option ℕ) (rate : ℕ) (split : Option Head) (net : Net) (node phase : ℕ) (sensed : Sensed) (heard : List Heard) (list : List Platoon) (gap look : ℕ) (span : ℕ → ℕ) (times : Phase) (series : List ℕ) (streams : List Part)
+    → gap ≡ net.run.gap → look ≡ net.run.look → times ≡ phase_at (plan_at net node) phase → streams ≡ streams_of net sensed heard (phase_links_at net node phase)
+    → series ≡ together streams look → ((x : ℕ) → span x ≡ span_with split times.greatest (times.greatest - times.loss) sensed.now series x)
+    → ArePlatoonsBy (aged_load_of age net sensed) gap rate span sensed.now look streams list → ArePlatoonsAsked age rate split net node phase sensed heard list
+asked-made age rate split net node phase sensed heard list gap look span times series streams g l t s brings spans are =
+    let load : Part → ℕ = aged_load_of age net sensed in
+    let own : List Part = streams_of net sensed heard (phase_links_at net node phase) in
+    let same : series ≡ together own net.run.look = brings ∙ ap (λ ss. together ss look) s ∙ ap (together own) l in
+    let asked : ℕ → ℕ = span_with split (phase_at (plan_at net node) phase).greatest (most_of net node phase) sensed.now (together own net.run.look) in
+    let each : (x : ℕ) → span x ≡ asked x = λ x. spans x ∙ ap (λ (p : Phase). span_with split p.greatest (p.greatest - p.loss) sensed.now series x) t
+    ∙ ap (λ xs. span_with split (phase_at (plan_at net node) phase).greatest (most_of net node phase) sensed.now xs x) same in
+    subst (λ n. ArePlatoonsBy load n rate asked sensed.now net.run.look own list) g
+    (subst (λ n. ArePlatoonsBy load gap rate asked sensed.now n own list) l
+    (subst (λ ss. ArePlatoonsBy load gap rate asked sensed.now look ss list) s
+    (subst (λ f. ArePlatoonsBy load gap rate f sensed.now look streams list) (λ i x. each x i) are)))
+
 -- with no age and no head to split for, the platoons are those of the rules alone
-pub asked-plain : (net : Net) (node phase : ℕ) (sensed : Sensed) (heard : List Heard) (list : List Platoon) → ArePlatoonsAsked None None net node phase sensed heard list
+pub asked-plain : (net : Net) (node phase : ℕ) (sensed : Sensed) (heard : List Heard) (list : List Platoon) → ArePlatoonsAsked None 0 None net node phase sensed heard list
     → ArePlatoons (load_of net) net.run.gap (most_of net node phase) sensed.now net.run.look (streams_of net sensed heard (phase_links_at net node phase)) list
 asked-plain net node phase sensed heard list are =
     subst
-    (λ load. ArePlatoonsBy load net.run.gap (λ first. most_of net node phase) sensed.now net.run.look (streams_of net sensed heard (phase_links_at net node phase)) list)
+    (λ load. ArePlatoonsBy load net.run.gap 0 (λ first. most_of net node phase) sensed.now net.run.look (streams_of net sensed heard (phase_links_at net node phase)) list)
     (aged_load-none net sensed) are
 
 -- so for all phases of a node
 abbrev pub ArePlain : Net → ℕ → Sensed → List Heard → List (List Platoon) → ℕ → Type 0
-ArePlain net node sensed heard = ArePhases (λ k. ArePlatoonsAsked None None net node k sensed heard)
+ArePlain net node sensed heard = ArePhases (λ k. ArePlatoonsAsked None 0 None net node k sensed heard)
 
 pub plain-are : (net : Net) (node : ℕ) (sensed : Sensed) (heard : List Heard) (lists : List (List Platoon)) (i : ℕ) → ArePlain net node sensed heard lists i → i ≡ length (plan_at net node)
     → ArePlatoonsOf net node sensed heard lists
@@ -55,7 +74,7 @@ plain-are net node sensed heard lists i h e = record {
 pub plain-sound : (net : Net) (node : ℕ) (sensed : Sensed) (heard : List Heard) (lists : List (List Platoon)) (i : ℕ) → IsNetwork net → sensed.now ≤ 18000 → node < length net.node_names
     → ArePlain net node sensed heard lists i → i ≡ length (plan_at net node) → (k : ℕ) → k < length lists → AreSoundOf net node k sensed.now (platoons_at lists k)
 plain-sound net node sensed heard lists i h early there are e k lt =
-    asked-sound None None net node k sensed heard (platoons_at lists k) h early there (omega (arith, are.count, e)) tt (are.each k (omega (arith, are.count)))
+    asked-sound None 0 None net node k sensed heard (platoons_at lists k) h early there (omega (arith, are.count, e)) tt (are.each k (omega (arith, are.count)))
 
 -- with a head where the network asks for it, they may span what those may that are expected
 spans-same : (greatest most now : ℕ) (head : Head) (series : List ℕ) (split standing : Bool) (x : ℕ)
@@ -72,17 +91,18 @@ spans-are net node head now k series split e =
     ∙ (λ i x. spans-same (phase_at (plan_at net node) k).greatest (most_of net node k) now head series net.run.split (k == head.phase) x i)
 
 -- so they are expected, once the load of the first is held
-pub asked-expected : (net : Net) (node k : ℕ) (head : Head) (sensed : Sensed) (heard : List Heard) (age : Option ℕ) (split : Option Head) (plain list : List Platoon)
-    → age ≡ net.run.age → split ≡ (if net.run.split && (k == head.phase) then Some head else None) → ArePlatoonsAsked age split net node k sensed heard plain
+pub asked-expected : (net : Net) (node k : ℕ) (head : Head) (sensed : Sensed) (heard : List Heard) (age : Option ℕ) (rate : ℕ) (split : Option Head) (plain list : List Platoon)
+    → age ≡ net.run.age → rate ≡ rate_of net → split ≡ (if net.run.split && (k == head.phase) then Some head else None) → ArePlatoonsAsked age rate split net node k sensed heard plain
     → list ≡ with_hold net head k plain → AreExpectedIn net node head sensed k (streams_of net sensed heard (phase_links_at net node k)) list
-asked-expected net node k head sensed heard age split plain list a s are h =
+asked-expected net node k head sensed heard age rate split plain list a r s are h =
     let streams : List Part = streams_of net sensed heard (phase_links_at net node k) in
     let series : List ℕ = together streams net.run.look in
     record {
       plain = plain;
       are =
-          subst (λ n. ArePlatoonsBy (aged_load_of n net sensed) net.run.gap (span_of net node head sensed.now k series) sensed.now net.run.look streams plain) a
-          (subst (λ span. ArePlatoonsBy (aged_load_of age net sensed) net.run.gap span sensed.now net.run.look streams plain) (spans-are net node head sensed.now k series split s) are);
+          subst (λ n. ArePlatoonsBy (aged_load_of n net sensed) net.run.gap (rate_of net) (span_of net node head sensed.now k series) sensed.now net.run.look streams plain) a
+          (subst (λ n. ArePlatoonsBy (aged_load_of age net sensed) net.run.gap n (span_of net node head sensed.now k series) sensed.now net.run.look streams plain) r
+          (subst (λ span. ArePlatoonsBy (aged_load_of age net sensed) net.run.gap rate span sensed.now net.run.look streams plain) (spans-are net node head sensed.now k series split s) are));
       held = h;
     }
 
@@ -154,7 +174,7 @@ pub expected-sound : (net : Net) (node k : ℕ) (head : Head) (sensed : Sensed) 
 expected-sound net node k head sensed heard list h early there exists e =
     subst (AreSoundOf net node k sensed.now) (sym e.held)
     (held-in-sound net node k sensed.now head e.plain h.outline.run.hold
-    (aged-sound net.run.age net.run.gap (span_of net node head sensed.now k (together (streams_of net sensed heard (phase_links_at net node k)) net.run.look)) net node k sensed heard e.plain h early there exists h.outline.run.age e.are))
+    (aged-sound net.run.age net.run.gap (rate_of net) (span_of net node head sensed.now k (together (streams_of net sensed heard (phase_links_at net node k)) net.run.look)) net node k sensed heard e.plain h early there exists h.outline.run.age e.are))
 
 -- and so of all its phases
 pub expected-each : (net : Net) (node : ℕ) (head : Head) (sensed : Sensed) (heard : List Heard) (lists : List (List Platoon))
@@ -192,14 +212,16 @@ asks-nothing : (net : Net) (node k : ℕ) (head : Head) (sensed : Sensed) (strea
 asks-nothing net node k head sensed streams list none e =
     let series : List ℕ = together streams net.run.look in
     let most : ℕ = most_of net node k in
-    let S : Bool → Type 0 = λ b. ArePlatoonsBy (aged_load_of net.run.age net sensed) net.run.gap
+    let R : Option ℕ → Type 0 = λ n. ArePlatoonsBy (aged_load_of net.run.age net sensed) net.run.gap (unwrap_or n 0)
+    (span_of net node head sensed.now k (together streams net.run.look)) sensed.now net.run.look streams e.plain in
+    let S : Bool → Type 0 = λ b. ArePlatoonsBy (aged_load_of net.run.age net sensed) net.run.gap 0
     (λ x. if b && (k == head.phase) && (x == first_of (filled (together streams net.run.look))) then span_in_green (phase_at (plan_at net node) k).greatest (most_of net node k) head (sensed.now + x) else most_of net node k)
     sensed.now net.run.look streams e.plain in
-    let A : Option ℕ → Type 0 = λ n. ArePlatoonsBy (aged_load_of n net sensed) net.run.gap (λ first. most_of net node k) sensed.now net.run.look streams e.plain in
-    let L : (Part → ℕ) → Type 0 = λ load. ArePlatoonsBy load net.run.gap (λ first. most_of net node k) sensed.now net.run.look streams e.plain in
+    let A : Option ℕ → Type 0 = λ n. ArePlatoonsBy (aged_load_of n net sensed) net.run.gap 0 (λ first. most_of net node k) sensed.now net.run.look streams e.plain in
+    let L : (Part → ℕ) → Type 0 = λ load. ArePlatoonsBy load net.run.gap 0 (λ first. most_of net node k) sensed.now net.run.look streams e.plain in
     subst (ArePlatoons (load_of net) net.run.gap (most_of net node k) sensed.now net.run.look streams)
     (sym (e.held ∙ unheld (k == head.phase) net.run.hold head.at e.plain none.hold))
-    (subst L (aged_load-none net sensed) (subst A none.age (subst S none.split e.are)))
+    (subst L (aged_load-none net sensed) (subst A none.age (subst S none.split (subst R none.rate e.are))))
 
 pub without-options : (net : Net) (node : ℕ) (head : Head) (sensed : Sensed) (heard : List Heard) (lists : List (List Platoon))
     → AsksNothing net → AreExpected net node head sensed heard lists → ArePlatoonsOf net node sensed heard lists

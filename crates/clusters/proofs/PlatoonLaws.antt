@@ -150,13 +150,13 @@ arrival-at load now streams runs k lt =
     ∙ ap (λ p. p.cluster.arr) (platoon-at load now streams runs k d lt)
 
 -- Platoons of the runs of a cut, whatever these may span and a part may count.
-pub platoons-made : (load : Part → ℕ) (gap : ℕ) (span : ℕ → ℕ) (net : Net) (node phase : ℕ) (sensed : Sensed) (heard : List Heard) (list : List Platoon)
+pub platoons-made : (load : Part → ℕ) (gap rate : ℕ) (span : ℕ → ℕ) (net : Net) (node phase : ℕ) (sensed : Sensed) (heard : List Heard) (list : List Platoon)
     → IsNetwork net → sensed.now ≤ 18000 → node < length net.node_names → phase < length (plan_at net node)
     → ((first end : ℕ) → IsLoading load (map (part_of first end) (streams_of net sensed heard (phase_links_at net node phase))))
-    → ArePlatoonsBy load gap span sensed.now net.run.look (streams_of net sensed heard (phase_links_at net node phase)) list
+    → ArePlatoonsBy load gap rate span sensed.now net.run.look (streams_of net sensed heard (phase_links_at net node phase)) list
     → AreSoundOf net node phase sensed.now list
 unfolding together
-platoons-made load gap span net node phase sensed heard list h early there exists loads are =
+platoons-made load gap rate span net node phase sensed heard list h early there exists loads are =
     let look : ℕ = net.run.look in
     let now : ℕ = sensed.now in
     let links : List ℕ = phase_links_at net node phase in
@@ -166,7 +166,7 @@ platoons-made load gap span net node phase sensed heard list h early there exist
     let short : net.run.look ≤ 180 = h.outline.run.look.1 in
     let count : length (together (streams_of net sensed heard (phase_links_at net node phase)) net.run.look) ≡ net.run.look =
     length-map-range_with_len (λ x. sum_by (brought x) (streams_of net sensed heard (phase_links_at net node phase))) 0 net.run.look in
-    let placed : AreInOrder series runs = cut-in-order gap span series runs are.cut in
+    let placed : AreInOrder series runs = cut-in-order gap rate span series runs are.cut in
     let each : (k : ℕ) → k < length are.runs → LiesIn series (run_at are.runs k) = λ k lt. All-get_or (LiesIn series) are.runs k [] lt placed.each in
     let sound : AreStreams net.run.look streams = streams-sound net node phase sensed heard links streams look h there exists refl refl refl in
     let parts : All (IsPart net net.run.look) streams = streams-parts net sensed heard links in
@@ -212,13 +212,13 @@ platoons-made load gap span net node phase sensed heard list h early there exist
     }
 
 -- so the platoons of a phase of a network, with an age or none, are what planning and forecasting ask
-pub aged-sound : (age : Option ℕ) (gap : ℕ) (span : ℕ → ℕ) (net : Net) (node phase : ℕ) (sensed : Sensed) (heard : List Heard) (list : List Platoon)
+pub aged-sound : (age : Option ℕ) (gap rate : ℕ) (span : ℕ → ℕ) (net : Net) (node phase : ℕ) (sensed : Sensed) (heard : List Heard) (list : List Platoon)
     → IsNetwork net → sensed.now ≤ 18000 → node < length net.node_names → phase < length (plan_at net node) → IsAge age
-    → ArePlatoonsBy (aged_load_of age net sensed) gap span sensed.now net.run.look (streams_of net sensed heard (phase_links_at net node phase)) list
+    → ArePlatoonsBy (aged_load_of age net sensed) gap rate span sensed.now net.run.look (streams_of net sensed heard (phase_links_at net node phase)) list
     → AreSoundOf net node phase sensed.now list
-aged-sound age gap span net node phase sensed heard list h early there exists ok are =
+aged-sound age gap rate span net node phase sensed heard list h early there exists ok are =
     let streams : List Part = streams_of net sensed heard (phase_links_at net node phase) in
-    platoons-made (aged_load_of age net sensed) gap span net node phase sensed heard list h early there exists
+    platoons-made (aged_load_of age net sensed) gap rate span net node phase sensed heard list h early there exists
     (λ first end. loads-between age net sensed first end streams ok h.outline (streams-exist net node phase sensed heard (phase_links_at net node phase) streams h there exists refl refl))
     are
 

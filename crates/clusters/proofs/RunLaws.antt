@@ -118,13 +118,13 @@ pub record AreInOrder (series : List ℕ) (runs : List (List ℕ)) : Type 0 wher
   pub few : length runs ≤ length series
 
 -- those of a cut do
-pub cut-in-order : (gap : ℕ) (span : ℕ → ℕ) (series : List ℕ) (runs : List (List ℕ)) → IsCutBy gap span series runs → AreInOrder series runs
-cut-in-order gap span series runs cut =
+pub cut-in-order : (gap rate : ℕ) (span : ℕ → ℕ) (series : List ℕ) (runs : List (List ℕ)) → IsCutBy gap rate span series runs → AreInOrder series runs
+cut-in-order gap rate span series runs cut =
     let up : Rise (concat runs) = subst Rise (sym cut.all) (filled-rise series) in
     let rises : All Rise runs = rise-runs runs up in
     let within : All (All (λ x. x < length series)) runs = all-runs (λ x. x < length series) runs (subst (All (λ x. x < length series)) (sym cut.all) (filled-within series)) in
     let some : All (All (λ x. 1 ≤ get_or series x 0)) runs = all-runs (λ x. 1 ≤ get_or series x 0) runs (subst (All (λ x. 1 ≤ get_or series x 0)) (sym cut.all) (filled-some series)) in
-    let have : All HasSome runs = All-weaker (λ run. IsRun gap (span (first_of run)) run) HasSome (λ run r. r.some) runs cut.each in
+    let have : All HasSome runs = All-weaker (λ run. IsRun gap rate (span (first_of run)) series run) HasSome (λ run r. r.some) runs cut.each in
     record {
       each = All-from_get_or (LiesIn series) runs [] (λ i lt. lies-in series (get_or runs i []) (All-get_or HasSome runs i [] lt have) (All-get_or Rise runs i [] lt rises) (All-get_or (All (λ x. x < length series)) runs i [] lt within) (All-get_or (All (λ x. 1 ≤ get_or series x 0)) runs i [] lt some));
       order = runs-order runs up have;

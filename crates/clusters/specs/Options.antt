@@ -1,5 +1,5 @@
--- What a network may ask of the platoons of its nodes beside the rules: `split`, `age` and `hold`.
-use Rattle.std.specs.Prelude.{◌≡◌, ℕ, ◌+◌, ◌-◌, ◌*◌, ◌/◌, ◌<◌, ◌==◌, ◌&&◌, min, max, nat_lt, nat_le, if◌then◌else◌, false, List, [], ◌∷◌, Option, Some, None, length, sum_by}
+-- What a network may ask of the platoons of its nodes beside the rules: `split`, `age`, `hold` and `rate`.
+use Rattle.std.specs.Prelude.{◌≡◌, ℕ, ◌+◌, ◌-◌, ◌*◌, ◌/◌, ◌<◌, ◌==◌, ◌&&◌, min, max, nat_lt, nat_le, if◌then◌else◌, false, List, [], ◌∷◌, Option, Some, None, length, sum_by, unwrap_or}
 use Rattle.board_model.specs.declared.boards.Heard.{Heard}
 use Rattle.phase_plan.specs.Phases.{phase_at}
 use Rattle.switch_rules.specs.Bounds.{greatest_weight}
@@ -52,10 +52,14 @@ first_with_hold (Some hold) at (p ∷ ps) = (if nat_le p.cluster.arr at then wit
 abbrev pub with_hold : Net → Head → ℕ → List Platoon → List Platoon
 with_hold net head k list = if k == head.phase then first_with_hold net.run.hold head.at list else list
 
+-- the thousandths of the greatest amount of a run that come in each later second of it; 0 without a rate
+abbrev pub rate_of : Net → ℕ
+rate_of net = unwrap_or net.run.rate 0
+
 -- the platoons of phase k that a node with this head expects
 pub record AreExpectedIn (net : Net) (node : ℕ) (head : Head) (sensed : Sensed) (k : ℕ) (streams : List Part) (platoons : List Platoon) : Type 0 where
   pub plain : List Platoon
-  pub are : ArePlatoonsBy (aged_load_of net.run.age net sensed) net.run.gap (span_of net node head sensed.now k (together streams net.run.look)) sensed.now net.run.look streams plain
+  pub are : ArePlatoonsBy (aged_load_of net.run.age net sensed) net.run.gap (rate_of net) (span_of net node head sensed.now k (together streams net.run.look)) sensed.now net.run.look streams plain
   pub held : platoons ≡ with_hold net head k plain
 
 -- the platoons that a node with this head expects, phase by phase
@@ -68,3 +72,4 @@ pub record AsksNothing (net : Net) : Type 0 where
   pub split : net.run.split ≡ false
   pub age : net.run.age ≡ None
   pub hold : net.run.hold ≡ None
+  pub rate : net.run.rate ≡ None

@@ -44,16 +44,17 @@ abbrev pub platoon_of : (Part → ℕ) → ℕ → List Part → List ℕ → Pl
 platoon_of load now streams run = platoon_within load now streams (first_of run) (last_of run + 1)
 
 -- The platoons of a phase, by what its streams bring together in each of `look` seconds from second `now` on. This is cut into runs
--- of seconds, with at most `gap` empty ones between neighbours of a run and at most `span x` seconds in one that begins in second x
--- from `now`; each run makes a platoon. `load part` is what a part of a platoon counts in its load.
-pub record ArePlatoonsBy (load : Part → ℕ) (gap : ℕ) (span : ℕ → ℕ) (now look : ℕ) (streams : List Part) (platoons : List Platoon) : Type 0 where
+-- of seconds, with at most `gap` empty ones between neighbours of a run, at least `rate` thousandths of the greatest amount before it
+-- in each later second, and at most `span x` seconds in one that begins in second x from `now`; each run makes a platoon. `load part`
+-- is what a part of a platoon counts in its load.
+pub record ArePlatoonsBy (load : Part → ℕ) (gap rate : ℕ) (span : ℕ → ℕ) (now look : ℕ) (streams : List Part) (platoons : List Platoon) : Type 0 where
   pub runs : List (List ℕ)
-  pub cut : IsCutBy gap span (together streams look) runs
+  pub cut : IsCutBy gap rate span (together streams look) runs
   pub each : platoons ≡ map (platoon_of load now streams) runs
 
--- the same with one span
+-- the same with one span, whatever comes in a second
 abbrev pub ArePlatoons : (Part → ℕ) → ℕ → ℕ → ℕ → ℕ → List Part → List Platoon → Type 0
-ArePlatoons load gap most = ArePlatoonsBy load gap (λ first. most)
+ArePlatoons load gap most = ArePlatoonsBy load gap 0 (λ first. most)
 
 -- the platoons of phase k
 abbrev pub platoons_at : List (List Platoon) → ℕ → List Platoon

@@ -9,7 +9,7 @@ use Rattle.net_parts.specs.Outline.{phase_links_at, plan_at}
 use Rattle.road_net.specs.declared.senses.Sensed.{Sensed}
 use Rattle.clusters.specs.declared.vehicle_groups.Part.{Part}
 use Rattle.clusters.specs.declared.vehicle_groups.Platoon.{Platoon}
-use Rattle.clusters.specs.Cuts.{IsRun, filled, filled_from, first_of, last_of}
+use Rattle.clusters.specs.Cuts.{FallsBelow, IsRun, filled, filled_from, first_of, last_of}
 use Rattle.clusters.specs.Platoons.{ArePlatoonsBy, most_of, streams_of, together}
 use Rattle.clusters.specs.Options.{aged_load_of, span_in_green}
 
@@ -25,16 +25,17 @@ pub record IsNext (series : List ℕ) (start x : ℕ) : Type 0 where
   pub before : IsEmpty series start x
 
 -- the seconds before `end`, from the first one on, are a run that ends there
-pub record IsRunUpTo (gap most : ℕ) (series : List ℕ) (first end : ℕ) : Type 0 where
+pub record IsRunUpTo (gap rate most : ℕ) (series : List ℕ) (first end : ℕ) : Type 0 where
   pub some : first < end
   pub there : end ≤ length series
-  pub run : IsRun gap most (filled_from series first (end - first))
+  pub run : IsRun gap rate most series (filled_from series first (end - first))
   pub begins : first_of (filled_from series first (end - first)) ≡ first
   pub ends : last_of (filled_from series first (end - first)) + 1 ≡ end
 
--- and none after it could have joined
-abbrev pub IsClosed : ℕ → ℕ → List ℕ → ℕ → ℕ → Type 0
-IsClosed gap most series first end = (x : ℕ) → end ≤ x → 1 ≤ slice_index series x → (end + gap < x) ⊎ (first + most < x + 1)
+-- and the next second that is not empty could not have joined
+abbrev pub IsClosed : ℕ → ℕ → ℕ → List ℕ → ℕ → ℕ → Type 0
+IsClosed gap rate most series first end = (x : ℕ) → IsNext series end x
+    → (end + gap < x) ⊎ (first + most < x + 1) ⊎ FallsBelow rate series (filled_from series first (end - first)) x
 
 -- how many seconds a run may span that begins in second x: `most`, or as many as stand beside that second
 abbrev pub span_at : Option (ℕ × ℕ) → ℕ → ℕ → ℕ
@@ -57,10 +58,10 @@ IsAge age = IfSome age (λ a. (1 ≤ a) × (a ≤ 3600))
 abbrev pub IsHold : Option ℕ → Type 0
 IsHold hold = IfSome hold (λ h. (1 ≤ h) × (h ≤ 20))
 
--- the platoons of a phase with this age, and with this head to split for
-abbrev pub ArePlatoonsAsked : Option ℕ → Option Head → Net → ℕ → ℕ → Sensed → List Heard → List Platoon → Type 0
-ArePlatoonsAsked age split net node phase sensed heard =
-    ArePlatoonsBy (aged_load_of age net sensed) net.run.gap
+-- the platoons of a phase with this age, with this rate, and with this head to split for
+abbrev pub ArePlatoonsAsked : Option ℕ → ℕ → Option Head → Net → ℕ → ℕ → Sensed → List Heard → List Platoon → Type 0
+ArePlatoonsAsked age rate split net node phase sensed heard =
+    ArePlatoonsBy (aged_load_of age net sensed) net.run.gap rate
     (span_with split (phase_at (plan_at net node) phase).greatest (most_of net node phase) sensed.now (together (streams_of net sensed heard (phase_links_at net node phase)) net.run.look))
     sensed.now net.run.look (streams_of net sensed heard (phase_links_at net node phase))
 

@@ -52,20 +52,25 @@ fn next_filled(series: &[u32], from: usize) -> Option<usize>
 }
 
 /// Where the run ends that begins with this second, which is not empty: after its last second.
-fn run_end(series: &[u32], first: usize, gap: u32, most: u32) -> usize
+fn run_end(series: &[u32], first: usize, gap: u32, rate: u32, most: u32) -> usize
     requires there { first < length series.now }
     requires filled { 1 ≤ slice_index series.now first }
     requires gap { gap ≤ 10 }
     requires most { (1 ≤ most) × (most ≤ 240) }
-    ensures run { IsRunUpTo gap most series.now first result }
-    ensures closed { IsClosed gap most series.now first result }
+    ensures run { IsRunUpTo gap rate most series.now first result }
+    ensures closed { IsClosed gap rate most series.now first result }
 {
     let mut end = first + 1;
+    let mut peak = series[first];
     for x in first + 1..series.len().min(first + most as usize) {
         if x > end + gap as usize {
             return end;
         }
         if series[x] > 0 {
+            if 1000 * (series[x] as u64) < rate as u64 * peak as u64 {
+                return end;
+            }
+            peak = peak.max(series[x]);
             end = x + 1;
         }
     }
@@ -85,6 +90,8 @@ pub(crate) fn first_filled(series: &[u32]) -> usize
 pub(crate) struct Cutting {
     /// How many empty seconds a run may have between its vehicles.
     pub gap: u32,
+    /// How many thousandths of the greatest amount before it each later second of a run has; 0 for any.
+    pub rate: u32,
     /// How many seconds a run may span.
     pub most: u32,
     /// The second in which a run begins that may span another number of seconds, and that number.
@@ -120,13 +127,14 @@ pub(crate) fn gather_platoons(
     requires series { series.now ≡ together streams.now (length series.now) }
     requires streams { AreStreams (length series.now) streams.now }
     requires links { AreOfLinks net.now streams.now }
-    ensures { IfOk result (λ platoons. ArePlatoonsBy (aged_load_of age net.now sensed.entry.now) cutting.gap
+    ensures { IfOk result (λ platoons. ArePlatoonsBy (aged_load_of age net.now sensed.entry.now) cutting.gap cutting.rate
         (span_at cutting.first cutting.most) sensed.entry.now.now (length series.now) streams.now platoons.items) }
 {
     let mut platoons = Vec::with_capacity(alloc, CAPACITY)?;
     let mut from = 0;
     while let Some(first) = next_filled(series, from) {
-        let end = run_end(series, first, cutting.gap, span_at(cutting, first));
+        let most = span_at(cutting, first);
+        let end = run_end(series, first, cutting.gap, cutting.rate, most);
         platoons.push(platoon(net, sensed, age, streams, first, end)?)?;
         from = end;
     }

@@ -8,7 +8,7 @@ ghost use Rattle.clusters.specs.Inflow.{IsHeardOf};
 ghost use Rattle.clusters.specs.Platoons.{ArePlatoonsOf, streams_of};
 ghost use Rattle.clusters.specs.Sound.{AreOfNode, AreSpacedClusters, cluster_lists, clusters_of};
 ghost use Rattle.clusters.specs.Steps.{ArePlatoonsAsked, IsAge};
-ghost use Rattle.clusters.specs.Options.{AreExpected, AreExpectedIn, AsksNothing, with_hold};
+ghost use Rattle.clusters.specs.Options.{AreExpected, AreExpectedIn, AsksNothing, rate_of, with_hold};
 ghost use Rattle.clusters.specs.Windows.{IsRising};
 ghost use Rattle.switch_rules.specs.Serving.{IsHead};
 
@@ -50,6 +50,7 @@ pub fn platoons(
 {
     let asked = ClusterOptions {
         age: None,
+        rate: 0,
         split: None,
     };
     let mut lists = Vec::with_capacity(alloc, net.plan(node).count() as usize)?;
@@ -61,9 +62,10 @@ pub fn platoons(
 }
 
 /// The platoons that a node expects whose signal has this head, phase by phase, as its network asks for them: those of
-/// `platoons`, where the network has no `split`, `age` and `hold` (`law_without_options`).
+/// `platoons`, where the network has no `split`, `age`, `hold` and `rate` (`law_without_options`).
 ///
-/// With `split` the first platoon of the head's phase ends in the standing green, where that still stands as the
+/// With `rate` a platoon ends before a second in which less comes than so many thousandths of its greatest amount. With
+/// `split` the first platoon of the head's phase ends in the standing green, where that still stands as the
 /// platoon can start. With an age a link counts more in the loads the longer its queue stands. With `hold` the load of
 /// the first platoon of the head's phase counts so many times, where it has arrived by the head's second `at`.
 ///
@@ -95,7 +97,7 @@ pub fn expected_platoons(
     Ok(lists)
 }
 
-/// Where a network asks for none of `split`, `age` and `hold`, the platoons that are expected are those of the rules
+/// Where a network asks for none of `split`, `age`, `hold` and `rate`, the platoons that are expected are those of the rules
 /// alone, with any head.
 ///
 /// docs/RULES.md, "Streets under load".
@@ -130,6 +132,7 @@ fn expected_in(
 /// What a network asks of the platoons of a phase where a node has this head.
 fn asked_of(net: &Network, phase: u8, head: &Head) -> ClusterOptions
     ensures age { result.age ≡ net.now.run.age }
+    ensures rate { result.rate ≡ rate_of net.now }
     ensures split { result.split ≡ (if net.now.run.split && (phase == head.now.phase) then Some head.now else None) }
     ensures network { IsNetwork net.now }
 {
@@ -141,6 +144,7 @@ fn asked_of(net: &Network, phase: u8, head: &Head) -> ClusterOptions
     };
     ClusterOptions {
         age: run.age,
+        rate: run.rate.unwrap_or(0),
         split,
     }
 }
@@ -163,6 +167,8 @@ fn hold_in(list: &mut [Platoon], net: &Network, phase: u8, head: &Head)
 struct ClusterOptions {
     /// In how many seconds the weight of a link whose queue stands grows by itself, if it grows.
     age: Option<u32>,
+    /// How many thousandths of the greatest amount of a platoon come in each later second of it; 0 for any.
+    rate: u32,
     /// The head in whose green the first platoon is to end, if it has to.
     split: Option<Head>,
 }
@@ -183,7 +189,7 @@ fn platoons_of(
     requires age { IsAge asked.age }
     requires head { IfSome asked.split (λ head. head.since ≤ head.at) }
     ensures { IfOk result
-        (λ list. ArePlatoonsAsked asked.age asked.split net.now node phase sensed.entry.now heard.now list.items) }
+        (λ list. ArePlatoonsAsked asked.age asked.rate asked.split net.now node phase sensed.entry.now heard.now list.items) }
 {
     let times = net.plan(node).phase(phase);
     let run = net.run();
@@ -193,6 +199,7 @@ fn platoons_of(
     together(series, streams.as_slice());
     let cutting = Cutting {
         gap: run.gap,
+        rate: asked.rate,
         most: times.greatest - times.loss,
         first: first_in_green(times, asked.split, sensed.now, series),
     };

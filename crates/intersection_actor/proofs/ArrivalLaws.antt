@@ -28,10 +28,10 @@ together-length streams look = length-map (range_with_len 0 look) _ ∙ length-r
 abbrev ComesBy : ℕ → Platoon → Type 0
 ComesBy second p = p.cluster.arr ≤ second
 
-list-soon : (load : Part → ℕ) (gap : ℕ) (span : ℕ → ℕ) (now look : ℕ) (streams : List Part) (list : List Platoon) → ArePlatoonsBy load gap span now look streams list → All (ComesBy (now + look)) list
-list-soon load gap span now look streams list h =
+list-soon : (load : Part → ℕ) (gap rate : ℕ) (span : ℕ → ℕ) (now look : ℕ) (streams : List Part) (list : List Platoon) → ArePlatoonsBy load gap rate span now look streams list → All (ComesBy (now + look)) list
+list-soon load gap rate span now look streams list h =
     let series : List ℕ = together streams look in
-    let placed : AreInOrder series h.runs = cut-in-order gap span series h.runs h.cut in
+    let placed : AreInOrder series h.runs = cut-in-order gap rate span series h.runs h.cut in
     subst (All (ComesBy (now + look))) (sym h.each)
     (All-map (ComesBy (now + look)) (platoon_of load now streams) h.runs
     (All-weaker (LiesIn series) (λ run. ComesBy (now + look) (platoon_of load now streams run)) (λ run r. omega (arith, r.order, r.before, together-length streams look)) h.runs placed.each))
@@ -47,7 +47,7 @@ first-soon second (Some hold) at (p ∷ ps) h =
 expected-soon : (net : Net) (node : ℕ) (head : Head) (sensed : Sensed) (k : ℕ) (streams : List Part) (list : List Platoon) → AreExpectedIn net node head sensed k streams list → All (ComesBy (sensed.now + net.run.look)) list
 expected-soon net node head sensed k streams list h =
     let second : ℕ = sensed.now + net.run.look in
-    let plain : All (ComesBy second) h.plain = list-soon _ _ _ _ _ _ _ h.are in
+    let plain : All (ComesBy second) h.plain = list-soon _ _ _ _ _ _ _ _ h.are in
     subst (All (ComesBy second)) (sym h.held)
     (cond_both (nat_eq k head.phase) _ h.plain (All (ComesBy second)) (λ yes. first-soon second _ _ h.plain plain) (λ no. plain))
 

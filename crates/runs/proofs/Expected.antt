@@ -1,13 +1,14 @@
 -- What a node expects is one: a series is cut in one way, and one front is the longest that can be planned.
-use Rattle.std.proofs.Common.{◌≡◌, ℕ, zero, suc, ◌+◌, ◌-◌, ◌<◌, ◌≤◌, List, [], ◌∷◌, ◌++◌, All, length, map, get_or, take, sum, refl, sym, ap, subst, ◌∙◌, inl, inr, arith, length-append, append-nil}
+use Rattle.std.proofs.Common.{◌≡◌, ℕ, zero, suc, ◌+◌, ◌-◌, ◌*◌, ◌<◌, ◌≤◌, List, [], ◌∷◌, ◌++◌, All, length, map, get_or, take, sum, refl, sym, ap, subst, ◌∙◌, inl, inr, arith, length-append, append-nil}
 use Rattle.std.specs.Prelude.{◌⊎◌}
 use Rattle.std.specs.List.{concat}
+use Rattle.std.proofs.Math.Seq.{take-append_seam}
 use Rattle.std.proofs.lemmas.Bool.{cases_lt}
 use Rattle.std.proofs.lemmas.List.{ext_get_or, get_or_append_left, get_or_at, length-map}
 use Rattle.std.proofs.lemmas.List.Elements.{All-head, All-tail}
 use Rattle.std.proofs.lemmas.List.Sums.{sum_by-cons}
 use Rattle.board_model.specs.declared.boards.Heard.{Heard}
-use Rattle.clusters.specs.Cuts.{CannotJoin, IsRun, first_of, last_of, run_at}
+use Rattle.clusters.specs.Cuts.{CannotJoin, IsRun, first_of, last_of, peak, run_at}
 use Rattle.clusters.specs.Platoons.{ArePlatoonsBy, platoon_of, platoons_at, together}
 use Rattle.clusters.specs.Options.{AreExpected, AreExpectedIn, with_hold}
 use Rattle.clusters.specs.Windows.{IsLongest, IsWindow, counts_of}
@@ -21,13 +22,13 @@ use Rattle.net_parts.specs.Numbers.{Net}
 use Rattle.road_net.specs.declared.senses.Sensed.{Sensed}
 use Rattle.switch_rules.specs.declared.Head.{Head}
 
-module _ (gap : ℕ) (span : ℕ → ℕ) where
+module _ (gap rate : ℕ) (span : ℕ → ℕ) (series : List ℕ) where
   -- a run within the span of its first second, and what could not have joined it
   abbrev Fits : List ℕ → Type 0
-  Fits run = IsRun gap (span (first_of run)) run
+  Fits run = IsRun gap rate (span (first_of run)) series run
 
   abbrev StaysOut : List ℕ → ℕ → Type 0
-  StaysOut run = CannotJoin gap (span (first_of run)) run
+  StaysOut run = CannotJoin gap rate (span (first_of run)) series run
 
   -- a second that could not have joined a run is in no longer one
   longer : (run zs : List ℕ) (z : ℕ) → Fits run → Fits (run ++ z ∷ zs) → Rise (run ++ z ∷ zs) → StaysOut run z → ⊥
@@ -41,7 +42,11 @@ module _ (gap : ℕ) (span : ℕ → ℕ) where
       let next : get_or (run ++ z ∷ zs) (length run - 1 + 1) 0 ≡ z = ap (λ k. get_or (run ++ z ∷ zs) k 0) (let e : length run - 1 + 1 ≡ length run = omega arith in e) ∙ here in
       elim cannot [
         | inl far ↦ omega (arith, far, other.near (length run - 1) (omega arith), next, before)
-        | inr past ↦ omega (arith, past, other.span, first, wide, rise-last (run ++ z ∷ zs) (length run) up (omega arith), here)
+        | inr (inl past) ↦ omega (arith, past, other.span, first, wide, rise-last (run ++ z ∷ zs) (length run) up (omega arith), here)
+        | inr (inr below) ↦
+            let at : length run - 1 + 1 ≡ length run = omega arith in
+            let taken : take (length run - 1 + 1) (run ++ z ∷ zs) ≡ run = ap (λ n. take n (run ++ z ∷ zs)) at ∙ take-append_seam run (z ∷ zs) in
+            omega (arith, below, other.flows (length run - 1) (omega arith), ap (λ r. rate * peak series r) taken, ap (λ y. get_or series y 0) next)
       ]
 
   abbrev Apart : List (List ℕ) → Type 0
@@ -86,14 +91,14 @@ module _ (gap : ℕ) (span : ℕ → ℕ) where
       second others [] s t = both others (s ∙ append-nil q) (sym t)
       second others (z ∷ zs) s t = absurd (no-longer q qs z zs (concat rs) y t (subst Fits s (All-head Fits r rs x.0)) (subst Rise s (rise-left r (concat rs) up)))
 
-same-platoons : (load : Part → ℕ) (gap : ℕ) (span : ℕ → ℕ) (now look : ℕ) (streams : List Part) (a b : List Platoon) → ArePlatoonsBy load gap span now look streams a → ArePlatoonsBy load gap span now look streams b → a ≡ b
-same-platoons load gap span now look streams a b h g =
+same-platoons : (load : Part → ℕ) (gap rate : ℕ) (span : ℕ → ℕ) (now look : ℕ) (streams : List Part) (a b : List Platoon) → ArePlatoonsBy load gap rate span now look streams a → ArePlatoonsBy load gap rate span now look streams b → a ≡ b
+same-platoons load gap rate span now look streams a b h g =
     h.each
-    ∙ ap (map (platoon_of load now streams)) (same-cut gap span h.runs g.runs (h.cut.all ∙ sym g.cut.all) (subst Rise (sym h.cut.all) (filled-rise (together streams look))) (h.cut.each, h.cut.apart) (g.cut.each, g.cut.apart))
+    ∙ ap (map (platoon_of load now streams)) (same-cut gap rate span (together streams look) h.runs g.runs (h.cut.all ∙ sym g.cut.all) (subst Rise (sym h.cut.all) (filled-rise (together streams look))) (h.cut.each, h.cut.apart) (g.cut.each, g.cut.apart))
     ∙ sym g.each
 
 same-expected : (net : Net) (node : ℕ) (head : Head) (sensed : Sensed) (k : ℕ) (streams : List Part) (a b : List Platoon) → AreExpectedIn net node head sensed k streams a → AreExpectedIn net node head sensed k streams b → a ≡ b
-same-expected net node head sensed k streams a b h g = h.held ∙ ap (with_hold net head k) (same-platoons _ _ _ _ _ _ _ _ h.are g.are) ∙ sym g.held
+same-expected net node head sensed k streams a b h g = h.held ∙ ap (with_hold net head k) (same-platoons _ _ _ _ _ _ _ _ _ h.are g.are) ∙ sym g.held
 
 -- the platoons of a node with a head are one
 pub one-expected : (net : Net) (node : ℕ) (head : Head) (sensed : Sensed) (heard : List Heard) (a b : List (List Platoon)) → AreExpected net node head sensed heard a → AreExpected net node head sensed heard b → a ≡ b

@@ -8,7 +8,7 @@ use Rattle.clusters.proofs.node_platoons.platoons.Goals as goal
 
 pub loop-phase-preserved : goal.loop-phase-preserved
 loop-phase-preserved c =
-    phases-more (λ k. ArePlatoonsAsked None None c.args.net.now c.args.node k c.args.sensed.now c.args.heard.now) c.loop-phase.lists.items c.push.new.self.items c.from_vec.result c.loop-phase.phase c.loop-phase.invariant
+    phases-more (λ k. ArePlatoonsAsked None 0 None c.args.net.now c.args.node k c.args.sensed.now c.args.heard.now) c.loop-phase.lists.items c.push.new.self.items c.from_vec.result c.loop-phase.phase c.loop-phase.invariant
     (rw c.from_vec.ensures c.in_ok-list.ensures) c.in_ok-push.ensures.items
 
 pub returns-clause-platoons : goal.returns-clause-platoons
