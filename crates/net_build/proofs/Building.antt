@@ -2,7 +2,7 @@
 use Rattle.std.proofs.Common.{◌≡◌}
 use Rattle.net_parts.specs.declared.drafts.Draft.{Draft}
 use Rattle.net_parts.specs.declared.faults.NetFault.{NetFault}
-use Rattle.net_parts.specs.declared.faults.NetFault.TheVariants.{NoMemory, NotToml, Shape, Bound, Twice, Unknown, Ends, Crowd, Shares, Phaseless, Clash}
+use Rattle.net_parts.specs.declared.faults.NetFault.TheVariants.{NoMemory, NotToml, Shape, Bound, Twice, Unknown, Ends, Crowd, Shares, Phaseless, Also, Clash, Yields, Walk}
 use Rattle.net_parts.specs.Bounds.{IsBounded}
 use Rattle.net_parts.specs.FirstFaults.{FailsBounds, FailsNumbers, Refuses}
 use Rattle.net_parts.specs.Numbers.{Net}
@@ -34,5 +34,8 @@ module _ (d : Draft) where
   IsDraftFault-joins net is (Crowd node) h = record { net = net; numbers = is; holds = h }
   IsDraftFault-joins net is (Shares link) h = record { net = net; numbers = is; holds = h }
   IsDraftFault-joins net is (Phaseless link) h = record { net = net; numbers = is; holds = h }
+  IsDraftFault-joins net is (Also link) h = record { net = net; numbers = is; holds = h }
   IsDraftFault-joins net is (Clash a b) h = record { net = net; numbers = is; holds = h }
+  IsDraftFault-joins net is (Yields link) h = record { net = net; numbers = is; holds = h }
+  IsDraftFault-joins net is (Walk link) h = record { net = net; numbers = is; holds = h }
   IsDraftFault-joins net is _ h = absurd h

@@ -7,7 +7,7 @@ use Rattle.net_parts.specs.declared.faults.Section.{Section}
 use Rattle.net_parts.specs.declared.faults.Section.TheVariants.{Top, Run, Node, Phase, Link, Turn, Conflict}
 use Rattle.net_parts.specs.declared.faults.Place.{Place}
 use Rattle.net_parts.specs.declared.faults.NetFault.{NetFault}
-use Rattle.net_parts.specs.declared.faults.NetFault.TheVariants.{NoMemory, NotToml, Shape, Bound, Twice, Unknown, Ends, Crowd, Shares, Phaseless, Clash}
+use Rattle.net_parts.specs.declared.faults.NetFault.TheVariants.{NoMemory, NotToml, Shape, Bound, Twice, Unknown, Ends, Crowd, Shares, Phaseless, Also, Clash, Yields, Walk}
 use Rattle.net_parts.specs.declared.parts.Parts.{Parts}
 use Rattle.net_parts.specs.FirstFaults.{IsKnownPhase, IsKnownNode, IsKnownTurn, IsKnownLink, IsKnownConflict, IsUnknownInNode, IsUnknownInLink, IsTwiceFault, IsUnknownFault, FailsNumbers, Refuses}
 use Rattle.net_parts.specs.Numbers.{Net, AreDistinct, node_names, link_names}
@@ -29,7 +29,10 @@ IsBoundAt-weaker why why' (Ends link) f h = h
 IsBoundAt-weaker why why' (Crowd node) f h = h
 IsBoundAt-weaker why why' (Shares link) f h = h
 IsBoundAt-weaker why why' (Phaseless link) f h = h
+IsBoundAt-weaker why why' (Also link) f h = h
 IsBoundAt-weaker why why' (Clash a b) f h = h
+IsBoundAt-weaker why why' (Yields link) f h = h
+IsBoundAt-weaker why why' (Walk link) f h = h
 
 pub IsUnknownAt-weaker : (why why' : Place → Type 0) (fault : NetFault) → ((place : Place) → why place → why' place) → IsUnknownAt why fault → IsUnknownAt why' fault
 IsUnknownAt-weaker why why' NoMemory f h = h
@@ -42,7 +45,10 @@ IsUnknownAt-weaker why why' (Ends link) f h = h
 IsUnknownAt-weaker why why' (Crowd node) f h = h
 IsUnknownAt-weaker why why' (Shares link) f h = h
 IsUnknownAt-weaker why why' (Phaseless link) f h = h
+IsUnknownAt-weaker why why' (Also link) f h = h
 IsUnknownAt-weaker why why' (Clash a b) f h = h
+IsUnknownAt-weaker why why' (Yields link) f h = h
+IsUnknownAt-weaker why why' (Walk link) f h = h
 
 module _ (d : Draft) where
   -- a name that comes twice
@@ -57,7 +63,10 @@ module _ (d : Draft) where
   FailsNumbers-twice why (Crowd node) f h = h
   FailsNumbers-twice why (Shares link) f h = h
   FailsNumbers-twice why (Phaseless link) f h = h
+  FailsNumbers-twice why (Also link) f h = h
   FailsNumbers-twice why (Clash a b) f h = h
+  FailsNumbers-twice why (Yields link) f h = h
+  FailsNumbers-twice why (Walk link) f h = h
 
   -- a name that stands for nothing, where no name comes twice
   pub FailsNumbers-unknown : AreDistinct (node_names d) → AreDistinct (link_names d) → (why : Place → Type 0) (fault : NetFault) → ((place : Place) → why place → IsUnknownFault d place.part place.item place.sub) → IsUnknownAt why fault → FailsNumbers d fault
@@ -71,7 +80,10 @@ module _ (d : Draft) where
   FailsNumbers-unknown nodes links why (Crowd node) f h = h
   FailsNumbers-unknown nodes links why (Shares link) f h = h
   FailsNumbers-unknown nodes links why (Phaseless link) f h = h
+  FailsNumbers-unknown nodes links why (Also link) f h = h
   FailsNumbers-unknown nodes links why (Clash a b) f h = h
+  FailsNumbers-unknown nodes links why (Yields link) f h = h
+  FailsNumbers-unknown nodes links why (Walk link) f h = h
 
   -- the first fault of a link is the first of the draft, where all phases name links
   pub IsUnknownFault-link : All (IsKnownNode (link_names d)) d.nodes → (part : Section) (item sub : ℕ) → FromOne (IsFirstAt (IsKnownLink (node_names d) (link_names d)) (λ l. IsUnknownInLink (node_names d) (link_names d) l part sub) d.links) item → IsUnknownFault d part item sub
@@ -94,10 +106,10 @@ module _ (d : Draft) where
 
   module _ (net : Net) (is : IsNumbered d net) where
     known_nodes : All (IsKnownNode (link_names d)) d.nodes
-    known_nodes = nodes-known (link_names d) d.nodes net.phase_links is.phase_links
+    known_nodes = nodes-known (link_names d) d.nodes net.phase_links net.also_links is.phase_links is.also_links
 
     known_links : All (IsKnownLink (node_names d) (link_names d)) d.links
-    known_links = links-known (link_names d) (node_names d) net.phase_links d.links net.links net.turns is.links is.turns
+    known_links = links-known (link_names d) (node_names d) net.phase_links d.links net.links net.turns net.yields is.links is.turns is.yields
 
     IsUnknownFault-not : (part : Section) (item sub : ℕ) → IsUnknownFault d part item sub → ⊥
     IsUnknownFault-not Top item sub h = h
@@ -107,7 +119,7 @@ module _ (d : Draft) where
         FromOne-not (IsKnownNode (link_names d)) (λ n. IsUnknownInNode (link_names d) n sub) d.nodes item
         (λ n no ok. FromOne-not (IsKnownPhase (link_names d)) (λ p. IsKnownPhase (link_names d) p → ⊥) n.phases sub (λ p not yes. not yes) no ok) h known_nodes
     IsUnknownFault-not Link item sub h =
-        FromOne-not (IsKnownLink (node_names d) (link_names d)) (λ l. IsUnknownInLink (node_names d) (link_names d) l Link sub) d.links item (λ l no ok. no.1 ok.ends) h.1 known_links
+        FromOne-not (IsKnownLink (node_names d) (link_names d)) (λ l. IsUnknownInLink (node_names d) (link_names d) l Link sub) d.links item (λ l no ok. no.1 ok.own) h.1 known_links
     IsUnknownFault-not Turn item sub h =
         FromOne-not (IsKnownLink (node_names d) (link_names d)) (λ l. IsUnknownInLink (node_names d) (link_names d) l Turn sub) d.links item
         (λ l no ok. FromOne-not (IsKnownTurn (link_names d)) (λ t. IsKnownTurn (link_names d) t → ⊥) l.turns sub (λ t not yes. not yes) no.1 ok.turns) h.1 known_links
@@ -127,7 +139,10 @@ module _ (d : Draft) where
   FailsNumbers-refuses (Crowd node) h = absurd h
   FailsNumbers-refuses (Shares link) h = absurd h
   FailsNumbers-refuses (Phaseless link) h = absurd h
+  FailsNumbers-refuses (Also link) h = absurd h
   FailsNumbers-refuses (Clash a b) h = absurd h
+  FailsNumbers-refuses (Yields link) h = absurd h
+  FailsNumbers-refuses (Walk link) h = absurd h
 
   -- at the exit of a `?`
   pub numbered-fails : (fault : NetFault) (result : Result Parts NetFault) → result ≡ Err fault → FailsNumbers d fault → IfErr result (λ fault. Refuses fault ((net : Net) → IsNetOf d net → ⊥)) × IfErr result (FailsNumbers d)

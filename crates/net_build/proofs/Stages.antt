@@ -15,7 +15,7 @@ use Rattle.net_parts.specs.declared.roads.Link.{Link}
 use Rattle.net_parts.specs.declared.roads.Turn.{Turn}
 use Rattle.net_parts.specs.Bounds.{IsBoundedNode}
 use Rattle.net_parts.specs.FirstFaults.{FailsNumbers, IsKnownNode, IsKnownLink, IsKnownConflict, IsUnknownInNode, IsUnknownInLink, IsUnknownFault}
-use Rattle.net_parts.specs.Numbers.{Net, AreDistinct, phases_of, plan_of, also_of, conflict_of, roads_of, node_names, link_names, numbered}
+use Rattle.net_parts.specs.Numbers.{Net, AreDistinct, phases_of, also_of, plan_of, conflict_of, roads_of, node_names, link_names, numbered}
 use Rattle.net_build.specs.Outcome.{IsUnknownAt, Makes}
 use Rattle.net_parts.specs.Parts.{IsNetOf}
 use Rattle.net_build.specs.Stages.{AreNames, AreTables}
@@ -25,8 +25,8 @@ use Rattle.net_parts.proofs.Known.{nodes-known, links-known, own_names}
 use Rattle.net_build.proofs.Outline.{phases-few}
 
 -- the network of a draft with these lists
-abbrev net_by : Draft → List (List (List ℕ)) → List Link → List (List Turn) → List (ℕ × ℕ) → List (List Phase) → List (List (List ℕ)) → Net
-net_by d phase_links roads turns conflicts plans also_links = record { run = d.run; node_names = node_names d; plans = plans; phase_links = phase_links; also_links = also_links; link_names = link_names d; links = roads; turns = turns; conflicts = conflicts }
+abbrev net_by : Draft → List (List (List ℕ)) → List (List (List ℕ)) → List Link × List (List Turn) × List (List ℕ) → List (ℕ × ℕ) → List (List Phase) → Net
+net_by d phase_links also_links roads conflicts plans = record { run = d.run; node_names = node_names d; plans = plans; phase_links = phase_links; also_links = also_links; link_names = link_names d; links = roads.0; turns = roads.1; yields = roads.2; conflicts = conflicts }
 
 module _ (d : Draft) (nodes links : List (List ℕ)) where
   -- a fault of a phase is one of the draft
@@ -36,9 +36,9 @@ module _ (d : Draft) (nodes links : List (List ℕ)) where
   fault-phase named ns same fault h = IsUnknownAt-weaker _ _ fault (λ place why. rw why.0 (rw (named, same) at why.1)) h
 
   -- the lists by the names of a draft are its network
-  pub named-net : AreNames d nodes links → (phase_links : List (List (List ℕ))) (roads : List Link) (turns : List (List Turn)) (conflicts : List (ℕ × ℕ)) (plans : List (List Phase)) (also_links : List (List (List ℕ))) → numbered d ≡ Some (net_by d phase_links roads turns conflicts plans also_links)
-      → IsNetOf d (record { run = d.run; node_names = nodes; plans = plans; phase_links = phase_links; also_links = also_links; link_names = links; links = roads; turns = turns; conflicts = conflicts })
-  named-net are phase_links roads turns conflicts plans also_links made = rw (are.nodes, are.links) (record { node_names = are.nodes_differ; link_names = are.links_differ; numbers = made })
+  pub named-net : AreNames d nodes links → (phase_links also_links : List (List (List ℕ))) (roads : List Link) (turns : List (List Turn)) (yields : List (List ℕ)) (conflicts : List (ℕ × ℕ)) (plans : List (List Phase)) → numbered d ≡ Some (net_by d phase_links also_links (roads, turns, yields) conflicts plans)
+      → IsNetOf d (record { run = d.run; node_names = nodes; plans = plans; phase_links = phase_links; also_links = also_links; link_names = links; links = roads; turns = turns; yields = yields; conflicts = conflicts })
+  named-net are phase_links also_links roads turns yields conflicts plans made = rw (are.nodes, are.links) (record { node_names = are.nodes_differ; link_names = are.links_differ; numbers = made })
 
   -- names that were added, whatever is made by them
   pub names-after : {X : Type 0} (result : Result X NetFault) (ns : List DraftNode) → ns ≡ d.nodes → (ls : List DraftLink) → ls ≡ d.links
@@ -46,9 +46,9 @@ module _ (d : Draft) (nodes links : List (List ℕ)) where
   names-after (Ok x) ns kept ls same named joined differ apart = record { nodes = rw kept at named; links = rw same at joined; nodes_differ = rw kept at differ; links_differ = rw same at apart }
   names-after (Err fault) ns kept ls same named joined differ apart = tt
 
-  module _ (phase_links : List (List (List ℕ))) (are : AreTables d nodes links phase_links) where
+  module _ (phase_links also_links : List (List (List ℕ))) (are : AreTables d nodes links phase_links also_links) where
     known_nodes : All (IsKnownNode (link_names d)) d.nodes
-    known_nodes = nodes-known (link_names d) d.nodes phase_links are.phases
+    known_nodes = nodes-known (link_names d) d.nodes phase_links also_links are.phases are.also
 
     -- each node has its phases
     pub tables-nodes : length nodes ≤ length phase_links
@@ -68,14 +68,14 @@ module _ (d : Draft) (nodes links : List (List ℕ)) where
     fault-road ls same fault h =
         IsUnknownAt-weaker _ _ fault (λ place why. IsUnknownFault-link d known_nodes place.part place.item place.sub (rw (are.nodes, are.links, same) at why)) h
 
-    module _ (ls : List DraftLink) (same : ls ≡ d.links) (roads : List Link × List (List Turn)) (made : roads_of nodes links phase_links ls ≡ Some roads) where
+    module _ (ls : List DraftLink) (same : ls ≡ d.links) (roads : List Link × List (List Turn) × List (List ℕ)) (made : roads_of nodes links phase_links ls ≡ Some roads) where
       own_roads : roads_of (node_names d) (link_names d) phase_links d.links ≡ Some roads
       own_roads = rw (are.nodes, are.links, same) at made
 
       known_links : All (IsKnownLink (node_names d) (link_names d)) d.links
       known_links =
           let parts = roads_parts (node_names d) (link_names d) phase_links d.links roads own_roads in
-          links-known (link_names d) (node_names d) phase_links d.links roads.0 roads.1 parts.0 parts.1
+          links-known (link_names d) (node_names d) phase_links d.links roads.0 roads.1 roads.2 parts.0 parts.1 parts.2
 
       -- a fault of a conflict is one of the draft
       pub fault-conflict : (cs : List DraftConflict) → cs ≡ d.conflicts → (fault : NetFault)
@@ -85,12 +85,12 @@ module _ (d : Draft) (nodes links : List (List ℕ)) where
           IsUnknownAt-weaker _ _ fault (λ place why. rw why.0 (why.1, known_nodes, known_links, rw (are.links, alike) at why.2)) h
 
       -- all lists together are the network
-      pub numbers-all : (cs : List DraftConflict) → cs ≡ d.conflicts → (ns : List DraftNode) → ns ≡ d.nodes → (conflicts : List (ℕ × ℕ)) (plans : List (List Phase)) (also_links : List (List (List ℕ)))
-          → each (conflict_of links) cs ≡ Some conflicts → plans ≡ map plan_of ns → also_links ≡ map also_of ns → numbered d ≡ Some (net_by d phase_links roads.0 roads.1 conflicts plans also_links)
+      pub numbers-all : (cs : List DraftConflict) → cs ≡ d.conflicts → (ns : List DraftNode) → ns ≡ d.nodes → (conflicts : List (ℕ × ℕ)) (plans : List (List Phase))
+          → each (conflict_of links) cs ≡ Some conflicts → plans ≡ map plan_of ns → numbered d ≡ Some (net_by d phase_links also_links roads conflicts plans)
       unfolding numbered
-      numbers-all cs alike ns kept conflicts plans also_links pairs are_plans are_also =
+      numbers-all cs alike ns kept conflicts plans pairs are_plans =
           let own : each (conflict_of (link_names d)) d.conflicts ≡ Some conflicts = rw (are.links, alike) at pairs in
-          rw (are.phases, own_roads, own, are_plans, are_also, kept) refl
+          rw (are.phases, are.also, own_roads, own, are_plans, kept) refl
 
 -- what was made is the network
 pub made-after : {X : Type 0} (view : X → Net) (d : Draft) (result : Result X NetFault) → Makes view result (numbered d) (λ place. IsUnknownFault d place.part place.item place.sub) → IfOk result (λ made. numbered d ≡ Some (view made))

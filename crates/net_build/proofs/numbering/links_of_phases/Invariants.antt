@@ -5,4 +5,7 @@ use Rattle.net_build.proofs.numbering.links_of_phases.Given as goal
 
 -- the links of the phases so far
 abbrev pub invariant-loop-index : goal.invariant-loop-index
-invariant-loop-index l = each (λ p. each (number_of l.names) p.links) (take l.index l.phases) ≡ Some l.lists.items
+invariant-loop-index l = record {
+  serves : each (λ p. each (number_of l.names) p.links) (take l.index l.phases) ≡ Some l.serves.items;
+  also : each (λ p. each (number_of l.names) p.also) (take l.index l.phases) ≡ Some l.further.items;
+}
