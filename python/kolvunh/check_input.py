@@ -4,7 +4,8 @@
 
 A line for each node, and a line `warning: ..` for each trouble. The load of a link is what comes to its end, carried along the turns, over its
 `sat`; that of a phase is the greatest of its links; and the saturation of a node is the sum of its phases' loads over the part of a cycle that
-is not lost, where each green has its greatest length. The files are read as right: what the program refuses is explained where it refuses it.
+is not lost, where each green has its greatest length. Where links are green in several phases, it is written besides for the shortest greens in
+which these let through what comes, at `yield_sat` where they give way. The files are read as right: what the program refuses is explained where it refuses it.
 The status is 1 where there is a warning, and 2 where a file can't be read. Nothing here is proved.
 """
 
@@ -19,11 +20,13 @@ from .faults import Fault
 from .networks import Link, Network, Node, Phase, read_network
 from .plans import PlanRow, read_plan
 from .records import plural, quote
+from .signs import gives_way_in
 
 LANE_MOST, LANE_LEAST = 1000, 100  # thousandths of a vehicle a second that one lane hardly lets through, or hardly so few
 HOUR = 3600
 MOST_PASSES = 1000
 FULL = 0.85  # saturation from which queues grow long
+LEAST_CLEAR = 3  # seconds of all-red in which who is trapped inside a junction leaves it
 MOST_COUNT = 20  # an amount up to this is taken for a count of vehicles
 
 
@@ -63,6 +66,54 @@ def phase_loads(network: Network, node: Node, flows: dict[str, float]) -> list[f
     return [max((flows[name] / sat[name] for name in phase.links), default=0) for phase in node.phases]
 
 
+def shared_loads(network: Network, node: Node, flows: dict[str, float]) -> list[float]:
+    """The load of each phase where each link is served in all its greens: those of the least sum that let through what comes.
+
+    A link lets `yield_sat` through in a green beside a link to which it gives way, else `sat`. Crossings ask for no more than their phases have.
+    """
+    count = len(node.phases)
+    needs = [[float(place == number) for place in range(count)] + [0.0] for number in range(count)]
+    for link in network.links_to(node.name):
+        if flows[link.name] > 0 and link.walk is None:
+            rates = [_rate(network, link, number) / flows[link.name] for number in range(count)]
+            needs.append([*rates, 1.0])
+    corners = (_solution(rows) for rows in itertools.combinations(needs, count))
+    fitting = [
+        corner
+        for corner in corners
+        if corner and all(sum(rate * load for rate, load in zip(need, corner)) > need[-1] - 1e-9 for need in needs)
+    ]
+    return min(fitting, key=sum)
+
+
+def _rate(network: Network, link: Link, phase: int) -> int:
+    """What a link lets through in a second of a phase."""
+    if phase not in network.greens_of[link.name]:
+        return 0
+    return link.yield_sat if gives_way_in(network, link, phase) else link.sat
+
+
+def _solution(rows: Sequence[Sequence[float]]) -> list[float] | None:
+    """The numbers that solve as many linear equations, each its factors and its sum; None where they are not the only ones."""
+    left = [list(row) for row in rows]
+    for place in range(len(left)):
+        best = max(range(place, len(left)), key=lambda at: abs(left[at][place]))
+        left[place], left[best] = left[best], left[place]
+        if abs(left[place][place]) < 1e-9:
+            return None
+        left[place] = [value / left[place][place] for value in left[place]]
+        for at in range(len(left)):
+            if at != place:
+                left[at] = [value - left[at][place] * own for value, own in zip(left[at], left[place])]
+    return [row[-1] for row in left]
+
+
+def best_loads(network: Network, node: Node, flows: dict[str, float]) -> list[float]:
+    """The loads of its phases, with further greens where it has such."""
+    shares = any(len(network.greens_of[link.name]) > 1 for link in network.links_to(node.name))
+    return shared_loads(network, node, flows) if shares else phase_loads(network, node, flows)
+
+
 def saturation(node: Node, loads: Sequence[float]) -> float:
     """The sum of the loads over the part of a cycle of greatest greens that is not lost."""
     cycle = sum(phase.greatest + phase.yellow + phase.clear for phase in node.phases)
@@ -71,8 +122,10 @@ def saturation(node: Node, loads: Sequence[float]) -> float:
 
 
 def lane_warnings(inputs: Inputs) -> Iterator[str]:
-    """A `sat` that no lane has: most often one for an hour, or for several lanes."""
+    """A `sat` that no lane has: most often one for an hour, or for several lanes. A crossing is no lane."""
     for link in inputs.network.links:
+        if link.walk is not None:
+            continue
         if link.sat > LANE_MOST:
             yield _high_sat(link)
         elif link.sat < LANE_LEAST:
@@ -118,7 +171,7 @@ def node_warnings(inputs: Inputs, node: Node) -> Iterator[str]:
     """What of a node's own times may make trouble."""
     name, run = node.name, inputs.network.run
     loads = phase_loads(inputs.network, node, inputs.flows)
-    full = saturation(node, loads)
+    full = saturation(node, best_loads(inputs.network, node, inputs.flows))
     if full >= FULL:
         yield f"{name} is at {full:.2f} of saturation" + (": more comes than can leave" if full >= 1 else ": queues will be long")
     short = [number for number, phase in enumerate(node.phases) if phase.greatest < run.look + phase.least]
@@ -128,8 +181,11 @@ def node_warnings(inputs: Inputs, node: Node) -> Iterator[str]:
         words = f"{name}: greatest is below look and least together in phase {phases}: a late queue may take two greens"
         yield f"{words}; write greatest = {wanted}, or a smaller look"
     yield from wait_warnings(node)
-    yield from green_warnings(node, loads)
+    yield from green_warnings(node, loads, run.recall is not None)
     yield from crossing_warnings(inputs.network, node)
+    yield from merging_warnings(inputs.network, node)
+    yield from trapped_warnings(inputs.network, node)
+    yield from walk_warnings(inputs.network, node)
 
 
 def wait_warnings(node: Node) -> Iterator[str]:
@@ -148,29 +204,69 @@ def longest_red(node: Node, number: int) -> int:
     return own.yellow + own.clear + sum(phase.greatest + phase.yellow + phase.clear for phase in others)
 
 
-def green_warnings(node: Node, loads: Sequence[float]) -> Iterator[str]:
+def green_warnings(node: Node, loads: Sequence[float], has_recall: bool) -> Iterator[str]:
     """A phase that may be left out while others are served, and one whose least green serves no queue."""
     for number, phase in enumerate(node.phases):
-        if phase.skip and loads[number] > 0:
+        if phase.skip and loads[number] > 0 and not has_recall:
             words = "skip = true: a plan may leave it out time after time, and nothing bounds how long its vehicles wait"
-            yield f"{node.name}: phase {number}: {words}; write age in [run] or a weight of its links, or leave skip out"
+            yield f"{node.name}: phase {number}: {words}; write recall or age in [run] or a weight of its links, or leave skip out"
         if phase.least <= phase.loss:
             words = f"least = {phase.least} is not above loss = {phase.loss}: a green of the least length serves no queue"
             yield f"{node.name}: phase {number}: {words}; write least = {phase.loss + 1} or more"
 
 
 def crossing_warnings(network: Network, node: Node) -> Iterator[str]:
-    """Links of two phases that are no conflict. Where they cross, nothing is proved of them."""
+    """Links without a common green that are no conflict. Where they cross, nothing is proved of them."""
     conflicts = {frozenset((pair.a, pair.b)) for pair in network.conflicts}
     found = [
         f"{a} and {b}"
         for one, other in itertools.combinations(node.phases, 2)
         for a, b in itertools.product(one.links, other.links)
-        if frozenset((a, b)) not in conflicts
+        if frozenset((a, b)) not in conflicts and not network.greens_of[a] & network.greens_of[b]
     ]
     if found:
-        words = f"in two phases and in no conflict are {', '.join(found[:8])}{' ..' if len(found) > 8 else ''}"
+        words = f"in two phases and in no conflict are {_some(found)}"
         yield f"{node.name}: {words}; for each two that cross write [[conflict]] with a and b"
+
+
+def merging_warnings(network: Network, node: Node) -> Iterator[str]:
+    """Links of a network of version 3 that are green together and lead into one exit, where neither gives way to the other."""
+    if network.version != 3:
+        return
+    found = []
+    for a, b in itertools.combinations(network.links_to(node.name), 2):
+        exits = {turn.exit for turn in a.turns} & {turn.exit for turn in b.turns}
+        gives_way = a.name in b.yields or b.name in a.yields
+        if exits and not gives_way and network.greens_of[a.name] & network.greens_of[b.name]:
+            found.append(f"{a.name} and {b.name}")
+    if found:
+        words = f"green together and into one exit are {_some(found)}, and neither gives way"
+        yield f"{node.name}: {words}; for each two that cross write yields in one of them, or a [[conflict]] and no common green"
+
+
+def trapped_warnings(network: Network, node: Node) -> Iterator[str]:
+    """A phase in which somebody gives way, and whose follower may be left out: who waits inside the junction as its green ends is trapped there."""
+    for number, phase in enumerate(node.phases):
+        after = (number + 1) % len(node.phases)
+        waits = [link.name for link in network.links_to(node.name) if gives_way_in(network, link, number)]
+        if waits and node.phases[after].skip and phase.clear < LEAST_CLEAR:
+            words = f"{', '.join(waits)} may wait inside the junction as its green ends, and phase {after}, which follows, may be left out"
+            yield f"{node.name}: phase {number}: {words}; write clear = {LEAST_CLEAR} or more"
+
+
+def walk_warnings(network: Network, node: Node) -> Iterator[str]:
+    """A crossing whose walk is over before a queue starts."""
+    for link in network.links_to(node.name):
+        for number in sorted(network.greens_of[link.name]) if link.walk is not None else ():
+            loss = node.phases[number].loss
+            if link.walk <= loss:
+                words = f"walk = {link.walk} is not above loss = {loss} of phase {number}: who waits there does not go in it"
+                yield f"link {link.name}: {words}; write walk = {loss + 1} or more"
+
+
+def _some(found: Sequence[str]) -> str:
+    """The first of these words, with two dots where there are more."""
+    return f"{', '.join(found[:8])}{' ..' if len(found) > 8 else ''}"
 
 
 def plan_warnings(inputs: Inputs) -> Iterator[str]:
@@ -222,7 +318,9 @@ def load_lines(inputs: Inputs) -> list[str]:
     for node in inputs.network.nodes:
         loads = phase_loads(inputs.network, node, inputs.flows)
         phases = ", ".join(f"phase {number} {load:.2f}" for number, load in enumerate(loads))
-        found.append(f"{node.name}: {phases}; saturation {saturation(node, loads):.2f}")
+        best = best_loads(inputs.network, node, inputs.flows)
+        further = f", with further greens {saturation(node, best):.2f}" if best != loads else ""
+        found.append(f"{node.name}: {phases}; saturation {saturation(node, loads):.2f}{further}")
     return found
 
 

@@ -1,6 +1,6 @@
 """Draws what the program writes: greens as text, and a street, queues or points as SVG on standard output.
 
-    tools/draw.py greens NET REPORT                       # a line for each phase of each node, `#` is a second of green
+    tools/draw.py greens NET REPORT [--links]             # a line for each phase of each node, `#` is a second of green
     tools/draw.py street NET REPORT NODE=METRES NODE=METRES .. [--queues QUEUES] > street.svg
     tools/draw.py queues QUEUES [LINK ..] > queues.svg    # the longest six where no link is named
     tools/draw.py points POINTS [--across LABEL] [--up LABEL] > points.svg
@@ -10,7 +10,9 @@
 its signal shows to the street, red or green: above its place to those who go up, below to those who go down. With the
 queues that the command `queues` writes the lines between are what the links carry, else the begin and the end of each
 green. `--from SECOND` and `--to SECOND` draw a window of time, `--title WORDS` has words above the picture, and `greens --ruler`
-the seconds in a line above. POINTS is a CSV with the header `series,x,y`; of points of one series with one x the mean is drawn,
+the seconds in a line above. Where a link of a node is green in several phases, gives way or is a crossing, and with `--links` at each node,
+`greens` has a line for each link too: `#` is green, `+` green beside a green link to which it gives way, and `-` its yellow, or the seconds in
+which who walks may still be on the crossing. POINTS is a CSV with the header `series,x,y`; of points of one series with one x the mean is drawn,
 with a bar of one standard deviation to either side. `table` has the same as numbers; with `--of` it has besides by how many
 hundredths this series is below each other one, point by point in the order of the file: mean, standard deviation, from where to where,
 and at how many points it is above. Nothing here is proved.
@@ -30,7 +32,8 @@ from .faults import Fault
 from .networks import Link, Network, read_network
 from .queues import Queues, read_queues
 from .records import Place, quote, rows_of, text_of
-from .reports import Records, read_report
+from .reports import Green, Records, read_report
+from .signs import has_overlaps, lights_of
 
 Span = tuple[int, int]
 
@@ -144,20 +147,45 @@ def greens_of(report: Records) -> dict[tuple[str, int], list[Span]]:
     return greens
 
 
+def phase_line(rows: Iterable[Span], end: int) -> list[str]:
+    """A character for each second of the run: `#` in the greens of a phase."""
+    line = ["."] * end
+    for first, last in rows:
+        line[first:last] = "#" * (min(last, end) - first)
+    return line
+
+
+def link_lines(network: Network, node: str, rows: Sequence[Green], end: int) -> dict[str, list[str]]:
+    """The same of each link that ends at a node, with its yellow, or the seconds in which who walks may be on it."""
+    lights = {link.name: lights_of(network, link, rows) for link in network.links_to(node)}
+    green = {name: {second for light in of for second in range(light.begin, light.end)} for name, of in lights.items()}
+    lines = {}
+    for link in network.links_to(node):
+        lines[link.name] = ["."] * end
+        for light in lights[link.name]:
+            for second in range(light.begin, min(light.clear, end)):
+                gives_way = any(second in green[other] for other in link.yields)
+                lines[link.name][second] = "-" if second >= light.end else "+" if gives_way else "#"
+    return lines
+
+
 def draw_greens(options: argparse.Namespace) -> str:
-    """A line for each phase of each node; `#` is a second of green, and each character a second of the run."""
+    """A line for each phase of each node, and for each link where that says more; each character is a second of the run."""
     network = read_network(options.network)
-    greens = greens_of(report_of(options, network))
-    wide, end = max(len(node.name) for node in network.nodes), network.run.seconds
+    report = report_of(options, network)
+    greens, rows, end = greens_of(report), report.greens_of(), network.run.seconds
     begin, last_shown = window_of(options, end)
-    lines = ruler(wide, begin, last_shown) if options.ruler else []
+    wide = max(len(node.name) for node in network.nodes)
+    lines: list[tuple[str, list[str]]] = []
     for node in network.nodes:
         for phase in range(len(node.phases)):
-            line = ["."] * end
-            for first, last in greens[node.name, phase]:
-                line[first:last] = "#" * (min(last, end) - first)
-            lines.append(f"{node.name:{wide}} {phase} {''.join(line[begin:last_shown])}")
-    return "\n".join(lines)
+            lines.append((f"{node.name:{wide}} {phase}", phase_line(greens[node.name, phase], end)))
+        if options.links or has_overlaps(network, node.name):
+            drawn = link_lines(network, node.name, rows.get(node.name, ()), end)
+            lines += [(f"  {link}", line) for link, line in drawn.items()]
+    widest = max(len(label) for label, _ in lines)
+    above = ruler(widest - 2, begin, last_shown) if options.ruler else []
+    return "\n".join([*above, *(f"{label:{widest}} {''.join(line[begin:last_shown])}" for label, line in lines)])
 
 
 def series_of(queues: Queues) -> dict[str, dict[int, Span]]:
@@ -370,6 +398,7 @@ def parser_of() -> Words:
             kind.add_argument(word)
         if name == "greens":
             kind.add_argument("--ruler", action="store_true", help="the seconds in a line above")
+            kind.add_argument("--links", action="store_true", help="what each link shows, at each node")
         elif name != "table":
             kind.add_argument("--title", default="", help="words above the picture")
         if name not in ("points", "table"):

@@ -16,6 +16,7 @@ from .networks import Link, Network
 from .queues import Queues
 from .records import quote
 from .reports import Green, Records
+from .signs import Light, lights_of
 
 
 @dataclass(frozen=True, slots=True)
@@ -108,21 +109,40 @@ class _World:
         self.arrivals: dict[int, list[Arrival]] = {}
         for arrival in arrivals:
             self.arrivals.setdefault(arrival.second, []).append(arrival)
-        self.greens: dict[int, list[Green]] = {}
-        for green in greens:
-            self.greens.setdefault(green.begin, []).append(green)
-        self.phases = {node.name: node.phases for node in network.nodes}
-        self.lit: dict[str, tuple[int, int]] = {}  # by link that is green: the first second in which it discharges, and the green's end
+        self.begins: dict[int, list[tuple[str, Light]]] = {}
+        rows: dict[str, list[Green]] = {}
+        for green in sorted(greens, key=lambda green: green.begin):
+            rows.setdefault(green.node, []).append(green)
+        for link in network.links:
+            for light in lights_of(network, link, rows.get(link.end, ())) if link.end else ():
+                self.begins.setdefault(light.begin, []).append((link.name, light))
+        self.lit: dict[str, tuple[int, frozenset[int]]] = {}  # by link that is green: the green's end, and the seconds that are lost
         self.parts: dict[tuple[str, int], list[tuple[str, int]]] = {}  # by link and amount: what goes by each exit
 
     def light(self, second: int) -> None:
-        """Begins the greens of a second; those of a queue lose its first seconds."""
-        for green in self.greens.get(second, []):
-            phase = self.phases[green.node][green.phase]
-            for name in phase.links:
-                flow = self.flows[name]
-                stands = flow.reached(second) > flow.left[second]
-                self.lit[name] = green.begin + (phase.loss if stands else 0), green.end
+        """Begins the greens of a second; those of a queue lose some seconds."""
+        for name, light in self.begins.get(second, []):
+            flow = self.flows[name]
+            stands = flow.reached(second) > flow.left[second]
+            self.lit[name] = light.end, light.lost if stands else frozenset()
+
+    def waits(self, name: str, second: int) -> int:
+        """What waits at the end of a link in a second, before anything leaves."""
+        flow = self.flows[name]
+        since = second + 1 - flow.link.travel
+        return flow.entered[since] - flow.left[second] if since > 0 else 0
+
+    def is_busy(self, name: str, second: int) -> bool:
+        """Whether a link is green in a second and something waits there."""
+        return second < self.lit.get(name, (0,))[0] and self.waits(name, second) > 0
+
+    def rate(self, link: Link, second: int) -> int:
+        """What a link that ends at a node lets through in a second."""
+        end, lost = self.lit.get(link.name, (0, frozenset()))
+        if second >= end or second in lost:
+            return 0
+        gives_way = any(self.is_busy(other, second) for other in link.yields)
+        return link.yield_sat if gives_way else link.sat
 
     def goes(self, link: Link, amount: int) -> list[tuple[str, int]]:
         """By which exits an amount goes on that a link discharges."""
@@ -135,18 +155,18 @@ class _World:
         """One second more."""
         self.light(second)
         coming: dict[str, int] = {}
+        leaving: list[int] = []
         for arrival in self.arrivals.get(second, []):
             coming[arrival.link] = coming.get(arrival.link, 0) + arrival.amount
         for name, flow in self.flows.items():
-            left, since = flow.left[second], second + 1 - flow.link.travel
-            amount = flow.entered[since] - left if since > 0 else 0
+            amount = self.waits(name, second)
             if amount and flow.link.end:
-                first, end = self.lit.get(name, (0, 0))
-                amount = min(amount, flow.link.sat) if first <= second < end else 0
+                amount = min(amount, self.rate(flow.link, second))
                 for exit, part in self.goes(flow.link, amount) if amount else ():
                     coming[exit] = coming.get(exit, 0) + part
-            flow.left.append(left + amount)
-        for name, flow in self.flows.items():
+            leaving.append(amount)
+        for (name, flow), amount in zip(self.flows.items(), leaving):
+            flow.left.append(flow.left[second] + amount)
             flow.entered.append(flow.entered[second] + coming.get(name, 0))
 
 

@@ -35,7 +35,8 @@ class Run:
 
 @dataclass(frozen=True)
 class Phase:
-    """The times of a phase, the links that have green in it, and whether the ring leaves it out (`skip`) where nobody comes."""
+    """The times of a phase, the links that have their home in it, whether the ring leaves it out (`skip`) where nobody comes, and the further
+    links that are green in it (`also`)."""
 
     least: int
     greatest: int
@@ -45,6 +46,7 @@ class Phase:
     wait: int
     links: tuple[str, ...]
     skip: bool = False
+    also: tuple[str, ...] = ()
 
 
 @dataclass(frozen=True)
@@ -68,7 +70,8 @@ class Link:
     """A lane, or several that have green together: `travel` seconds long, with `sat` at its end.
 
     `start` and `end` are the nodes between which it leads, `from` and `to` in the file: it enters the network where `start` is None, and
-    leaves it where `end` is None.
+    leaves it where `end` is None. It gives way to the links `yields`, and lets `yield_sat` through while one of them is busy. A crossing is
+    entered in the first `walk` seconds of a green, and who entered it is over `cross` seconds later.
     """
 
     name: str
@@ -78,6 +81,10 @@ class Link:
     end: str | None = None
     turns: tuple[Turn, ...] = ()
     weight: int = 1
+    yields: tuple[str, ...] = ()
+    yield_sat: int | None = None
+    walk: int | None = None
+    cross: int | None = None
 
 
 @dataclass(frozen=True)
@@ -108,8 +115,18 @@ class Network:
 
     @cached_property
     def phase_of(self) -> dict[str, tuple[Node, int]]:
-        """The node and the number of the phase, from 0, in which each link that ends at a node has green."""
+        """The node and the number of the phase, from 0, in which each link that ends at a node has its home."""
         return {link: (node, number) for node in self.nodes for number, phase in enumerate(node.phases) for link in phase.links}
+
+    @cached_property
+    def greens_of(self) -> dict[str, frozenset[int]]:
+        """The phases, from 0, in which each link that ends at a node is green: its home, and those that name it also."""
+        greens: dict[str, set[int]] = {}
+        for node in self.nodes:
+            for number, phase in enumerate(node.phases):
+                for link in (*phase.links, *phase.also):
+                    greens.setdefault(link, set()).add(number)
+        return {link: frozenset(numbers) for link, numbers in greens.items()}
 
     def node_named(self, name: str) -> Node | None:
         """The node of this name, or None."""
@@ -158,10 +175,11 @@ def network_of(file: dict[str, Any]) -> Network:
 
 def _phase(table: dict[str, Any]) -> Phase:
     times = (table[key] for key in ("least", "greatest", "yellow", "clear", "loss", "wait"))
-    return Phase(*times, tuple(table["links"]), table.get("skip", False))
+    return Phase(*times, tuple(table["links"]), table.get("skip", False), tuple(table.get("also", [])))
 
 
 def _link(table: dict[str, Any]) -> Link:
     turns = tuple(Turn(turn["exit"], turn["share"]) for turn in table.get("turn", []))
     ends = table.get("from"), table.get("to")
-    return Link(table["name"], table["travel"], table["sat"], *ends, turns, table.get("weight", 1))
+    own = table.get("weight", 1), tuple(table.get("yields", []))
+    return Link(table["name"], table["travel"], table["sat"], *ends, turns, *own, *map(table.get, ("yield_sat", "walk", "cross")))

@@ -6,7 +6,7 @@ import sys
 import unittest
 from unittest import mock
 
-from kolvunh.check_input import inputs_of, load_lines, main, warnings
+from kolvunh.check_input import best_loads, inputs_of, load_lines, main, phase_loads, warnings
 
 from . import worked
 from .worked import FilesTest
@@ -73,10 +73,57 @@ class CheckInputTest(FilesTest):
         network = QUIET.replace('[[node]]\nname = "b"', third).replace("[[conflict]]", link + "[[conflict]]", 1)
         words = "a: phase 2: skip = true: a plan may leave it out time after time, and nothing bounds how long its vehicles wait"
         said = self.said(network, STEADY + "0,ta,100\n")
-        self.assertEqual(said[0], words + "; write age in [run] or a weight of its links, or leave skip out")
+        self.assertEqual(said[0], words + "; write recall or age in [run] or a weight of its links, or leave skip out")
         crossing = "a: in two phases and in no conflict are sa and ta; for each two that cross write [[conflict]] with a and b"
         self.assertEqual(said[1:], [crossing])
         self.assertEqual(self.said(network), [crossing])
+        self.assertEqual(self.said(network.replace("split = true", "split = true\nrecall = 60"), STEADY + "0,ta,100\n"), [crossing])
+
+    def real(self, **changes):
+        """The inputs of a real junction, with parts of the network's text replaced, a word at a time."""
+        text = (worked.EXAMPLES / "real_junction.toml").read_text(encoding="utf-8")
+        for old, new in changes.values():
+            self.assertIn(old, text)
+            text = text.replace(old, new, 1)
+        return inputs_of(self.file(text, "real"), worked.EXAMPLES / "real_junction.csv")
+
+    def test_further_greens_share_the_load(self):
+        # a: ba needs 0.4 in phase 0. What comes by sa needs as much, and may leave in phase 0 as well as in its home, phase 1.
+        network = QUIET.replace("[run]", "version = 3\n[run]").replace('links = ["ba"]', 'links = ["ba"]\nalso = ["sa"]', 1)
+        arrivals = STEADY.replace("sa,100", "sa,200")
+        alone, shared = (load_lines(self.inputs(text, arrivals))[0] for text in (QUIET, network))
+        self.assertEqual(alone, "a: phase 0 0.40, phase 1 0.40; saturation 1.00")
+        self.assertEqual(shared, "a: phase 0 0.40, phase 1 0.40; saturation 1.00, with further greens 0.50")
+
+    def test_who_gives_way_lets_less_through(self):
+        inputs = self.real()
+        node, flows = inputs.network.nodes[0], inputs.flows
+        alone, shared = phase_loads(inputs.network, node, flows), best_loads(inputs.network, node, flows)
+        # South_left lets 100 through beside the main road, and 450 in its own phase.
+        for name, load in (("south_left", 100 * shared[0] + 450 * shared[1]), ("north_left", 100 * shared[0] + 450 * shared[1])):
+            self.assertGreaterEqual(load, flows[name] - 1e-6)
+        self.assertLess(sum(shared), sum(alone))
+
+    def test_who_is_trapped(self):
+        self.assertEqual([line for line in warnings(self.real()) if "wait inside" in line], [])
+        said = [line for line in warnings(self.real(clear=("clear = 3", "clear = 2"))) if "wait inside" in line]
+        words = "may wait inside the junction as its green ends, and phase 1, which follows, may be left out; write clear = 3 or more"
+        self.assertEqual(said, [f"station: phase 0: north_left, south_right, south_left {words}"])
+        stays = self.real(clear=("clear = 3", "clear = 2"), skip=("skip = true", "skip = false"))
+        self.assertEqual([line for line in warnings(stays) if "wait inside" in line], [])
+
+    def test_pairs_that_cross(self):
+        yields = 'yields = ["south", "south_right", "walk_east"]', 'yields = ["south", "walk_east"]'
+        said = [line for line in warnings(self.real(yields=yields)) if "into one exit" in line]
+        self.assertEqual(len(said), 1)
+        self.assertIn("green together and into one exit are north_left and south_right, and neither gives way", said[0])
+        missing = '[[conflict]]\na = "north"\nb = "east"\n', ""
+        self.assertIn("in no conflict are north and east, north and east_right", warnings(self.real(conflict=missing))[-1])
+
+    def test_a_short_walk(self):
+        said = [line for line in warnings(self.real(walk=("walk = 7", "walk = 2"))) if "walk = " in line]
+        words = "link walk_east: walk = 2 is not above loss = 2 of phase 0: who waits there does not go in it; write walk = 3 or more"
+        self.assertEqual(said, [words])
 
     def test_cycles_of_neighbours(self):
         self.assertEqual(self.said(plan=worked.PLAN)[0].split(":")[0], "fixed plan")

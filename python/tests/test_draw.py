@@ -46,6 +46,25 @@ class DrawTest(FilesTest):
         self.assertEqual(lines[:2], ["second     20        30", "           |    '    |    '"])
         self.assertEqual(lines[2:4], ["first  0 #####" + 15 * ".", "first  1 " + 10 * "." + 7 * "#" + "..."])
 
+    def test_what_links_show(self):
+        # Phase 0 from 0 to 26 with its links and the left turns beside, which give way; then the change to phase 1, in which these stay green.
+        report = "kind,round,node,x,y,z,w\ngreen,,station,0,0,20,\ngreen,,station,1,27,32,\ngreen,,station,2,37,47,\n"
+        files = EXAMPLES / "real_junction.toml", self.file(report, "report")
+        lines = {line.split()[0]: line[14:] for line in self.drawn("greens", *files, "--to", 50).splitlines() if line.startswith("  ")}
+        self.assertEqual(lines["north"], 20 * "#" + "----" + 26 * ".")
+        self.assertEqual(lines["north_left"], 20 * "+" + 12 * "#" + "---" + 15 * ".")
+        self.assertEqual(lines["east_right"], 27 * "." + 20 * "#" + "---")
+        self.assertEqual(lines["south_right"], 7 * "+" + 13 * "#" + "----" + 26 * ".")
+        self.assertEqual(lines["walk_east"], 7 * "#" + 8 * "-" + 35 * ".")
+        self.assertEqual(lines["walk_south"], 50 * ".")
+
+    def test_links_where_asked(self):
+        files = EXAMPLES / "corridor.toml", self.file(REPORT, "report")
+        lines = self.drawn("greens", *files, "--links", "--to", 30).splitlines()
+        self.assertEqual(lines[0], "first  0       " + 23 * "#" + 7 * ".")
+        self.assertEqual(lines[2], "  west_in      " + 23 * "#" + "---" + 4 * ".")
+        self.assertEqual(len(lines), 6 + 9)
+
     def test_pictures_are_xml(self):
         window = ("--from", 10, "--to", 19, "--title", "a & b")
         queues = self.drawn("queues", self.file(QUEUES), *window)
