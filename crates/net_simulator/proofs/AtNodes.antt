@@ -15,7 +15,7 @@ use Rattle.net_simulator.proofs.LightLaws.{AreAlike, alike-shown}
 use Rattle.net_simulator.proofs.Passing.{stands-alike}
 
 -- the node at the end of a link is one of the network
-end-below : (net : Net) → IsNetwork net → (l : ℕ) → IfSome (link_at net l).to (λ n. n < length net.node_names)
+pub end-below : (net : Net) → IsNetwork net → (l : ℕ) → IfSome (link_at net l).to (λ n. n < length net.node_names)
 end-below net network l = elim (cases_lt l (length net.links)) [
   | inl inside ↦ (All-get_or (IsLink (length net.node_names)) net.links l no_link inside network.outline.links).to
   | inr past ↦ subst (λ link. IfSome link.to (λ n. n < length net.node_names)) (sym (get_or_past net.links l no_link past)) tt

@@ -224,7 +224,13 @@ impl SpillWorld {
     {
         law_of_network(net);
         let x = self.second;
-        look(self.signs.as_mut_slice(), self.since.as_mut_slice(), net, lights, x);
+        look(
+            self.signs.as_mut_slice(),
+            self.since.as_mut_slice(),
+            net,
+            lights,
+            x,
+        );
         let moment = Moment {
             net,
             store,
