@@ -25,6 +25,7 @@ const RUN: Run = Run {
     hold: None,
     recall: None,
     act_step: None,
+    rate: None,
 };
 
 const TIMES: Phase = Phase {
