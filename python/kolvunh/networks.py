@@ -15,7 +15,7 @@ from .records import Place, text_of
 @dataclass(frozen=True)
 class Run:
     """How a run goes: a round every `step` seconds, `rounds` of them; plans look `look` seconds ahead, and vehicles that are at most `gap`
-    seconds apart are one platoon. `split`, `age` and `hold` are for busy streets, and `recall` is for phases with `skip`; None where the file does not have one."""
+    seconds apart are one platoon. `split`, `age`, `hold` and `rate` are for busy streets, and `recall` is for phases with `skip`; None where the file does not have one."""
 
     step: int
     look: int
@@ -26,6 +26,7 @@ class Run:
     hold: int | None = None
     recall: int | None = None
     act_step: int | None = None
+    rate: int | None = None
 
     @property
     def seconds(self) -> int:
@@ -165,7 +166,7 @@ def network_of(file: dict[str, Any]) -> Network:
     """The network of the tables that `tomllib` reads."""
     run = file["run"]
     return Network(
-        Run(*(run[key] for key in ("step", "look", "gap", "rounds")), run.get("split", False), *map(run.get, ("age", "hold", "recall", "act_step"))),
+        Run(*(run[key] for key in ("step", "look", "gap", "rounds")), run.get("split", False), *map(run.get, ("age", "hold", "recall", "act_step", "rate"))),
         tuple(Node(node["name"], tuple(map(_phase, node["phase"]))) for node in file["node"]),
         tuple(map(_link, file["link"])),
         tuple(Conflict(pair["a"], pair["b"]) for pair in file.get("conflict", [])),

@@ -124,6 +124,8 @@ class NetworksTest(FilesTest):
         self.assertEqual((run.split, run.age, run.hold, run.act_step), (True, 20, 2, 1))
         text = worked.NETWORK.replace("rounds = 4\n", "rounds = 4\nact_step = 1\n")
         self.assertEqual(read_network(self.file(text)).run.act_step, 1)
+        text = worked.NETWORK.replace("rounds = 4\n", "rounds = 4\nrate = 600\n")
+        self.assertEqual(read_network(self.file(text)).run.rate, 600)
 
     def test_faults(self):
         with self.assertRaisesRegex(Fault, "a table has no key 'sat'"):

@@ -24,7 +24,7 @@ WHOLE, TEXT, TRUTH, TEXTS, TABLE, TABLES = (
 # The keys that a table has to have, and those that it may have, each with its kind.
 KEYS: dict[str, tuple[dict[str, str], dict[str, str]]] = {
     "top": ({"run": TABLE, "node": TABLES, "link": TABLES}, {"conflict": TABLES, "version": WHOLE}),
-    "run": (dict.fromkeys(("step", "look", "gap", "rounds"), WHOLE), {"split": TRUTH, **dict.fromkeys(("age", "hold", "recall", "act_step"), WHOLE)}),
+    "run": (dict.fromkeys(("step", "look", "gap", "rounds"), WHOLE), {"split": TRUTH, **dict.fromkeys(("age", "hold", "recall", "act_step", "rate"), WHOLE)}),
     "node": ({"name": TEXT, "phase": TABLES}, {}),
     "phase": (
         {**dict.fromkeys(("least", "greatest", "yellow", "clear", "loss", "wait"), WHOLE), "links": TEXTS},
@@ -45,6 +45,7 @@ BOUNDS: dict[str, dict[str, tuple[int, int, str]]] = {
         "hold": (1, 20, ""),
         "recall": (1, 3600, "seconds"),
         "act_step": (1, 30, "seconds"),
+        "rate": (1, 1000, "thousandths"),
     },
     "phase": {
         "least": (1, 120, "seconds"),
