@@ -5,6 +5,7 @@ pub mod LinkLaws
 pub mod MemberLaws
 pub mod NamedLaws
 pub mod PhaseLaws
+pub mod PutLaws
 pub mod ReadingLaws
 pub mod RunLaws
 pub mod TableLaws
