@@ -44,13 +44,13 @@ record GivesBound (plan : List Phase) (cycle : List FixedRow) (k wait : ℕ) : T
   is : cycle_length plan cycle + (phase_at plan k).loss + 1 ≡ wait
 
 -- the place of what is found
-record IsFound (rows : List FixedRow) (k : ℕ) (r : FixedRow) : Type 0 where
-  index : ℕ
-  below : index < length rows
-  at : row_in rows index ≡ r
-  phase : r.phase ≡ k
+pub record IsFound (rows : List FixedRow) (k : ℕ) (r : FixedRow) : Type 0 where
+  pub index : ℕ
+  pub below : index < length rows
+  pub at : row_in rows index ≡ r
+  pub phase : r.phase ≡ k
 
-found : (rows : List FixedRow) (k : ℕ) (r : FixedRow) → find (λ (row : FixedRow). eqb row.phase k) rows ≡ Some r → IsFound rows k r
+pub found : (rows : List FixedRow) (k : ℕ) (r : FixedRow) → find (λ (row : FixedRow). eqb row.phase k) rows ≡ Some r → IsFound rows k r
 found [] k r e = absurd (none-some r e)
 found (first ∷ rows) k r e = elim (cases_Bool (eqb first.phase k)) [
   | inl same ↦

@@ -1,6 +1,7 @@
 pub mod CycleLaws
 pub mod CycleGreens
 pub mod FieldLaws
+mod FixedBoundLaws
 pub mod FixedWaits
 pub mod LineLaws
 pub mod RowLaws

@@ -72,7 +72,11 @@ fn node_line(
 }
 
 /// The rows of a node.
-fn rows_of(alloc: Global, rows: &[FixedRow], node: u32) -> Result<Vec<FixedRow>, AllocError>
+pub(crate) fn rows_of(
+    alloc: Global,
+    rows: &[FixedRow],
+    node: u32,
+) -> Result<Vec<FixedRow>, AllocError>
     ensures { IfOk result (λ own. own.items ≡ spec.rows_of rows.now node) }
 {
     let mut own = Vec::new(alloc);
@@ -115,7 +119,7 @@ fn cycle_line(
 }
 
 /// How long a cycle of these rows is.
-fn cycle_length(plan: &PhasePlan, cycle: &[FixedRow]) -> u32
+pub(crate) fn cycle_length(plan: &PhasePlan, cycle: &[FixedRow]) -> u32
     requires { IsCycle plan.now cycle.now }
     ensures value { result ≡ cycle_length plan.now cycle.now }
     ensures bounds { result ≤ 1040 }

@@ -1,7 +1,8 @@
-//! Fixed plans: the greens that each signal of a network shows in a fixed cycle, the file that lists them, and the
-//! timelines that they make.
+//! Fixed plans: the greens that each signal of a network shows in a fixed cycle, the file that lists them, the timelines
+//! that they make, and how long queues can wait under them.
 #![tactic(auto)]
 
+mod bounds;
 mod cycles;
 mod faults;
 mod fields;
@@ -12,6 +13,7 @@ mod reader;
 mod rows;
 mod texts;
 
+pub use bounds::fixed_bounds;
 pub use cycles::fixed_lines;
 pub use faults::FixedFault;
 pub use fixed_waits::{law_of_cycles, law_of_fixed_waits};
