@@ -26,7 +26,7 @@ use Rattle.commands.specs.Answers.{answer_text}
 use Rattle.commands.specs.Bounds.{bounds_text}
 use Rattle.commands.specs.Controllers.{BringTooMuch, IsActuatedReport, IsComparison, IsComparisonWith, IsFixedReport, IsScaleTable, factors}
 use Rattle.commands.specs.Headline.{Headline, IsGridSummary, IsPlannedText, ToldHeadline}
-use Rattle.commands.specs.Kinds.{ArrivalsText, CertificateText, HistoryText, InstanceText, IsCertificateText, NetworkText, PlanText, SheetText, StateText, StoreText}
+use Rattle.commands.specs.Kinds.{ArrivalsText, CertificateText, HistoryText, InstanceText, IsCertificateText, NetworkText, PlanText, SheetText, StateText, StoreText, node_state_of}
 use Rattle.commands.specs.Limits.{most_bytes}
 use Rattle.commands.specs.Rounds.{IsDecisionText, IsNodeDecisionText}
 use Rattle.commands.specs.Storages.{IsSpillTable}
@@ -53,7 +53,7 @@ texts_of (CompareFixed net arr plan) = three_texts PlanText net arr plan
 texts_of (Scale net arr first last step) = two_texts ArrivalsText net arr
 texts_of (Spill net arr store) = three_texts StoreText net arr store
 texts_of (Decide net state) = two_texts StateText net state
-texts_of (DecideNode net state node) = two_texts StateText net state
+texts_of (DecideNode net state node) = two_texts (node_state_of node) net state
 texts_of (Audit net arr report) = three_texts SheetText net arr report
 texts_of (Queues net arr report) = three_texts SheetText net arr report
 texts_of (Grid number side rounds) = NoMore

@@ -1,12 +1,12 @@
 -- The kinds of texts that commands read.
-use Rattle.std.specs.Prelude.{◌≡◌, ◌≢◌, ℕ, List}
+use Rattle.std.specs.Prelude.{◌≡◌, ◌≢◌, ℕ, List, Option}
 use Rattle.instance_form.specs.InstanceText.{instance_text}
 use Rattle.schedule_meaning.specs.Instances.{Problem, IsInstance}
 use Rattle.schedule_meaning.specs.Texts as instances
 use Rattle.dp_certificate.specs.Certificates.{Claim, IsCertificate}
 use Rattle.certificate_form.specs.Answers as certificates
 use Rattle.net_parts.specs.declared.faults.NetFault.TheVariants as net
-use Rattle.net_parts.specs.Numbers.{Net}
+use Rattle.net_parts.specs.Numbers.{Net, number_of}
 use Rattle.net_file.specs.NetworkText.{IsCause, IsNetworkText}
 use Rattle.arrivals.specs.Amounts.{Amounts, arriving_of}
 use Rattle.arrivals.specs.Texts as arrivals
@@ -21,6 +21,8 @@ use Rattle.fixed_plans.specs.declared.faults.FixedFault.TheVariants as plan
 use Rattle.fixed_plans.specs.declared.rows.FixedRow.{FixedRow}
 use Rattle.round_states.specs.Faults as states
 use Rattle.round_states.specs.Texts.{IsStateText}
+use Rattle.round_states.specs.declared.asked.Asked.{Asked}
+use Rattle.round_states.specs.declared.asked.Asked.TheVariants.{AllNodes, OneNode}
 use Rattle.round_states.specs.declared.faults.StateFault.TheVariants as state
 use Rattle.round_states.specs.declared.states.RoundState.{RoundState}
 use Rattle.audit.specs.SheetFaults as reports
@@ -126,11 +128,19 @@ IsBadPlan net text _ = ⊥
 abbrev pub PlanText : Net → Kind
 PlanText net = record { Said = List FixedRow; is_text = IsPlanText net; is_fault = IsBadPlan net }
 
--- the first fault of a text that is to say the state of a round
-abbrev pub IsBadState : Net → List ℕ → BadText → Type 0
-IsBadState net text (State fault) = states.IsTextFault net text fault × (fault ≢ state.NoMemory)
-IsBadState net text _ = ⊥
+-- the first fault of a text that is to say the state of a round, for these nodes
+abbrev pub IsBadState : Net → Asked → List ℕ → BadText → Type 0
+IsBadState net asked text (State fault) = states.IsTextFault net asked text fault × (fault ≢ state.NoMemory)
+IsBadState net asked text _ = ⊥
 
--- the kind of texts that say the state in which a round of a network begins
+-- the kind of texts that say the state in which a round of a network begins, where all its nodes are asked; and that of those that say one
+-- for a node alone
 abbrev pub StateText : Net → Kind
-StateText net = record { Said = RoundState; is_text = IsStateText net; is_fault = IsBadState net }
+StateText net = record { Said = RoundState; is_text = IsStateText net AllNodes; is_fault = IsBadState net AllNodes }
+
+abbrev pub NodeStateText : Net → Option ℕ → Kind
+NodeStateText net node = record { Said = RoundState; is_text = IsStateText net (OneNode node); is_fault = IsBadState net (OneNode node) }
+
+-- the same of a node by its name
+abbrev pub node_state_of : List ℕ → Net → Kind
+node_state_of name net = NodeStateText net (number_of net.node_names name)

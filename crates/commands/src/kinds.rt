@@ -10,7 +10,7 @@ use histories::History;
 use net_file::read_network;
 use net_parts::NetFault;
 use road_net::Network;
-use round_states::{RoundState, StateFault, read_state};
+use round_states::{Asked, RoundState, StateFault, read_state};
 use schedule_meaning::{Instance, TextFault, read_instance};
 use spillback_world::{Store, StoreFault, read_store};
 use std::alloc::Global;
@@ -178,6 +178,7 @@ impl FromText for FixedPlan {
 
 impl FromText for RoundState {
     ghost use Rattle.round_states.specs.States.{IsStateOf};
+    ghost use Rattle.round_states.specs.declared.asked.Asked.TheVariants.{AllNodes};
     ghost use Rattle.commands.specs.Kinds.{StateText};
 
     type Over = Network;
@@ -186,11 +187,49 @@ impl FromText for RoundState {
 
     ghost said = { λ net state. state };
 
-    ghost keeps = { IsStateOf };
+    ghost keeps = { λ net. IsStateOf net AllNodes };
 
     fn read(alloc: Global, text: &[u8], net: &Network) -> Result<RoundState, Flaw> {
-        match read_state(alloc, text, net) {
+        match read_state(alloc, text, net, Asked::AllNodes) {
             Ok(state) => Ok(state),
+            Err(StateFault::NoMemory) => Err(Flaw::NoMemory),
+            Err(fault) => Err(Flaw::Bad(BadText::State(fault))),
+        }
+    }
+}
+
+/// The state of a round, for a node that is asked alone.
+#[derive(Drop)]
+pub struct NodeState {
+    /// The state.
+    pub state: RoundState,
+}
+
+/// A network, and the number of the node that is asked alone; none where the network has no such node.
+#[derive(Drop)]
+pub struct NetworkNode {
+    /// The network.
+    pub network: Network,
+    /// The number of the node.
+    pub node: Option<u32>,
+}
+
+impl FromText for NodeState {
+    ghost use Rattle.round_states.specs.States.{IsStateOf};
+    ghost use Rattle.round_states.specs.declared.asked.Asked.TheVariants.{OneNode};
+    ghost use Rattle.commands.specs.Kinds.{NodeStateText};
+
+    type Over = NetworkNode;
+
+    ghost kind = { λ over. NodeStateText over.network over.node };
+
+    ghost said = { λ over value. value.state };
+
+    ghost keeps = { λ over value. IsStateOf over.network (OneNode over.node) value.state };
+
+    fn read(alloc: Global, text: &[u8], over: &NetworkNode) -> Result<NodeState, Flaw> {
+        match read_state(alloc, text, &over.network, Asked::OneNode(over.node)) {
+            Ok(state) => Ok(NodeState { state }),
             Err(StateFault::NoMemory) => Err(Flaw::NoMemory),
             Err(fault) => Err(Flaw::Bad(BadText::State(fault))),
         }

@@ -15,7 +15,8 @@ pub use ending::{Made, end};
 pub use kept_runs::{kept_run, run_of_turns};
 pub use refusals::{Named, Refusal, TextPlace, refuse};
 pub use scenes::{
-    NetworkWith, Scene, SceneWith, fetch_network_with, fetch_scene, fetch_scene_with,
+    NetworkWith, Scene, SceneWith, fetch_network_with, fetch_node_state, fetch_scene,
+    fetch_scene_with,
 };
 pub use status::Status;
 pub use texts::{Flaw, FromText, fetch};

@@ -1,15 +1,19 @@
 //! The texts that the network commands begin with.
 ghost use Rattle.std.specs.Prelude.{◌≡◌, IfErr, IfOk, OnOk};
 ghost use Rattle.arrivals.specs.Amounts.{AreArrivals, arriving_of};
-ghost use Rattle.commands.specs.Kinds.{ArrivalsText};
+ghost use Rattle.net_parts.specs.Numbers.{number_of};
+ghost use Rattle.commands.specs.Kinds.{ArrivalsText, node_state_of};
+ghost use Rattle.round_states.specs.States.{IsStateOf};
 ghost use Rattle.commands.specs.Stops.{StopsIn};
 ghost use Rattle.commands.specs.Texts.{AreIn, three_texts, two_texts};
 
+use super::kinds::{NetworkNode, NodeState};
 use super::refusals::{Refusal, TextPlace};
 use super::texts::{FromText, fetch};
 use arrivals::Arrivals;
 use outside_world::Shelf;
 use road_net::Network;
+use round_states::{Asked, RoundState};
 use std::alloc::Global;
 
 /// A network, and what a text after its own says of it.
@@ -40,6 +44,34 @@ pub fn fetch_network_with<T: FromText<Over = Network>, S: Shelf>(
     let network: Network = fetch(alloc, shelf, TextPlace::First, net, &())?;
     let value: T = fetch(alloc, shelf, TextPlace::Second, second, &network)?;
     Ok(NetworkWith { network, value })
+}
+
+/// The network of a command's first text, and what its second says of a round of it for the node with this name alone.
+///
+/// `Err`: that of the first text that can't be had, as `fetch` says.
+pub fn fetch_node_state<S: Shelf>(
+    alloc: Global,
+    shelf: &mut S,
+    net: &str,
+    state: &str,
+    node: &str,
+) -> Result<NetworkWith<RoundState>, Refusal>
+    ensures texts { IfOk result (λ all. AreIn (S.state shelf.old).files
+        (two_texts (node_state_of node.now) net.now state.now) (all.network, (all.value, tt))) }
+    ensures keeps { IfOk result (λ all. IsStateOf all.network
+        (Asked.OneNode (number_of all.network.node_names node.now)) all.value) }
+    ensures ok { OnOk result (S.state shelf.new ≡ S.state shelf.old) }
+    ensures refused { IfErr result
+        (StopsIn (two_texts (node_state_of node.now) net.now state.now) (S.state shelf.old) (S.state shelf.new)) }
+{
+    let network: Network = fetch(alloc, shelf, TextPlace::First, net, &())?;
+    let node = network.find_node(node);
+    let over = NetworkNode { network, node };
+    let value: NodeState = fetch(alloc, shelf, TextPlace::Second, state, &over)?;
+    Ok(NetworkWith {
+        network: over.network,
+        value: value.state,
+    })
 }
 
 /// A network, and arrivals at it.

@@ -3,7 +3,7 @@ use Rattle.std.proofs.Common.{◌≡◌, ℕ, List, Option, Some, None, IsSome}
 use Rattle.outside_world.specs.Shelf.{ShelfState}
 use Rattle.net_parts.specs.Numbers.{Net, number_of}
 use Rattle.round_states.specs.declared.states.RoundState.{RoundState}
-use Rattle.commands.specs.Kinds.{NetworkText, StateText}
+use Rattle.commands.specs.Kinds.{NetworkText, node_state_of}
 use Rattle.commands.specs.Texts.{IsIn}
 use Rattle.commands.specs.declared.refusals.Named.TheVariants.{Node, Round, Factor}
 use Rattle.commands.specs.declared.refusals.Refusal.{Refusal}
@@ -19,7 +19,7 @@ some_none (Some x) some none = absurd (cc)
 
 module _ (net file node : List ℕ) (network : Net) (state : RoundState) where
   -- a missing node explains that nothing was made
-  pub missed : (old new : ShelfState) (why : Refusal) → new ≡ old → IsIn old.files net NetworkText network → IsIn old.files file (StateText network) state → MissesNode network node why → Explains (DecideNode net file node) old new why
+  pub missed : (old new : ShelfState) (why : Refusal) → new ≡ old → IsIn old.files net NetworkText network → IsIn old.files file (node_state_of node network) state → MissesNode network node why → Explains (DecideNode net file node) old new why
   missed old new (refusal.Missing Node) same is tells misses = (same, ((network, (state, tt)), (is, (tells, tt)), misses))
   missed old new (refusal.Missing Round) same is tells misses = absurd misses
   missed old new (refusal.Missing Factor) same is tells misses = absurd misses

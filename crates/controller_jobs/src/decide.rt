@@ -8,17 +8,19 @@ ghost use Rattle.commands.specs.Rounds.{IsDecisionText, IsNodeDecisionText};
 ghost use Rattle.round_states.specs.States.{IsStateOf};
 ghost use Rattle.controller_jobs.specs.Nodes.{MissesNode};
 
-use commands::{Made, Named, NetworkWith, Refusal, Status, end, fetch_network_with};
+use commands::{
+    Made, Named, NetworkWith, Refusal, Status, end, fetch_network_with, fetch_node_state,
+};
 use outside_world::{Shelf, Sink};
 use pruned_dp::BoundPlanner;
 use road_net::{Network, law_of_network};
 use round_decisions::{decide, decide_node, decision_text, node_decision_text};
-use round_states::RoundState;
+use round_states::{Asked, RoundState};
 use std::alloc::{AllocError, Global};
 
 // The text of the decision of the round of a state.
 fn decided_text(alloc: Global, net: &Network, state: RoundState) -> Result<Vec<u8>, AllocError>
-    requires { IsStateOf net.now state }
+    requires { IsStateOf net.now Asked.AllNodes state }
     ensures { IfOk result (λ text. IsDecisionText net.now state text.items) }
 {
     law_of_network(net);
@@ -35,7 +37,7 @@ fn turn_text(
     state: RoundState,
     number: u32,
 ) -> Result<Vec<u8>, AllocError>
-    requires state { IsStateOf net.now state }
+    requires state { IsStateOf net.now (Asked.OneNode (Some number)) state }
     requires number { number < length net.now.node_names }
     ensures { IfOk result (λ text. (node : List ℕ) → number_of net.now.node_names node ≡ Some number
         → IsNodeDecisionText net.now state node text.items) }
@@ -54,7 +56,7 @@ fn node_text(
     state: RoundState,
     node: &str,
 ) -> Result<Vec<u8>, Refusal>
-    requires { IsStateOf net.now state }
+    requires { IsStateOf net.now (Asked.OneNode (number_of net.now.node_names node.now)) state }
     ensures text { IfOk result (λ text. IsNodeDecisionText net.now state node.now text.items) }
     ensures exists { OnOk result (IsSome (number_of net.now.node_names node.now)) }
     ensures refused { IfErr result (MissesNode net.now node.now) }
@@ -96,7 +98,7 @@ fn decide_node_files<S: Shelf>(
     let NetworkWith {
         network,
         value: state,
-    } = fetch_network_with(alloc, shelf, net, state)?;
+    } = fetch_node_state(alloc, shelf, net, state, node)?;
     let text = node_text(alloc, &network, state, node)?;
     Ok(Made::Done(text))
 }

@@ -8,7 +8,7 @@ use Rattle.std.proofs.lemmas.List.FromFn.{get_or-map-range_with_len, length-map-
 use Rattle.board_model.specs.declared.boards.Heard.{Heard}
 use Rattle.board_model.specs.declared.forecasts.Row.{Row}
 use Rattle.board_model.specs.Forecasts.{IsForecast}
-use Rattle.control_flow.specs.Greens.{end_of, row_at, rows_before, spliced}
+use Rattle.control_flow.specs.Greens.{BeginBy, end_of, row_at, rows_before, spliced}
 use Rattle.control_flow.specs.declared.greens.Green.{Green}
 use Rattle.histories.specs.Steps.{publisher}
 use Rattle.intersection_actor.specs.Commits.{Commitment, IsCommit, IsProblemOf, used_of}
@@ -16,7 +16,9 @@ use Rattle.intersection_actor.specs.declared.records.PlanRecord.{PlanRecord}
 use Rattle.intersection_actor.specs.declared.records.Used.{Used}
 use Rattle.net_parts.specs.Numbers.{Net}
 use Rattle.road_net.specs.Network.{IsNetwork, heard_links}
-use Rattle.round_states.specs.States.{IsBoard, IsStateOf, begin_of}
+use Rattle.round_states.specs.States.{IsAsked, IsBoard, IsStateOf, begin_of, farthest_begin}
+use Rattle.round_states.specs.declared.asked.Asked.{Asked}
+use Rattle.round_states.specs.declared.asked.Asked.TheVariants.{AllNodes}
 use Rattle.road_net.specs.declared.senses.Sensed.{Sensed}
 use Rattle.round_states.specs.declared.states.LinkBoard.{LinkBoard}
 use Rattle.round_states.specs.declared.states.RoundState.{RoundState}
@@ -39,6 +41,7 @@ use Rattle.round_decisions.specs.declared.decisions.Decision.{Decision}
 use Rattle.round_decisions.specs.declared.decisions.NodeDecision.{NodeDecision}
 use Rattle.round_decisions.specs.declared.rounds.Decided.{Decided}
 use Rattle.round_decisions.specs.declared.rounds.Waiting.{Waiting}
+use Rattle.round_decisions.proofs.SoonLaws.{commit-soon}
 
 -- a board of this round is one of the next, and so is its next version, where this is a forecast
 board-next : (b : Bool) (round : ℕ) (old : LinkBoard) (told : List Row) → IsBoard round old → IsForecast (if b then next_board old told else old).forecast → IsBoard (round + 1) (if b then next_board old told else old)
@@ -66,14 +69,18 @@ next-later : (round step : ℕ) → round * step ≤ (round + 1) * step
 next-later round step = (let e : (round + 1) * step ≡ round * step + step = omega arith in omega arith)
 
 -- how a line goes on by a commit
-pub goes-on : (net : Net) → IsNetwork net → (state : RoundState) → IsStateOf net state → (n : ℕ) → n < length net.node_names → (heard : List Heard) (c : Commitment)
+pub goes-on : (net : Net) → IsNetwork net → (state : RoundState) (asked : Asked) → IsStateOf net asked state → (n : ℕ) → n < length net.node_names → IsAsked asked n → (heard : List Heard) (c : Commitment)
     → IsCommit net n state.round (line_of state n) (sensed_of state n) heard c → (new : List Green) → new ≡ c.line → begin_of net (state.round + 1) < end_of new → GoesOnAt net state.round n (line_of state n) new
-goes-on net network state is n below heard c commit new same later =
-    let line = is.lines n below in
+goes-on net network state asked is n below wanted heard c commit new same later =
+    let line = is.lines n below wanted in
     let at = is.sensed n below in
     let k : KeepsLine (plan_at net n) (line_of state n) (sensed_of state n).now c.line =
     keeps net network n below state.round (line_of state n) (sensed_of state n) heard c at.sensed.now (record { lawful = line.lawful; begins = line.begins }) commit in
     let own : KeepsLine (plan_at net n) (line_of state n) (sensed_of state n).now new = subst (KeepsLine (plan_at net n) (line_of state n) (sensed_of state n).now) (sym same) k in
+    let more : begin_of net state.round ≤ begin_of net (state.round + 1) = next-later state.round net.run.step in
+    let soon : BeginBy ((sensed_of state n).now + farthest_begin) c.line =
+    commit-soon net network n below state.round (line_of state n) (sensed_of state n) heard c at.sensed.now (record { lawful = line.lawful; begins = line.begins })
+    (subst (λ now. BeginBy (now + farthest_begin) (line_of state n)) (sym at.now) (is.soon n below)) commit in
     let first : (row_at new 0).from ≤ (row_at (line_of state n) 0).from =
     subst (λ (l : List Green). (row_at l 0).from ≤ (row_at (line_of state n) 0).from) (sym (same ∙ commit.line)) (spliced-first (line_of state n) c.next line.some) in
     record {
@@ -81,16 +88,17 @@ goes-on net network state is n below heard c commit new same later =
         lawful = own.line.lawful;
         begins = own.line.begins;
         some = some-by new (begin_of net (state.round + 1)) later;
-        begun = (let begun = line.begun in let more : begin_of net state.round ≤ begin_of net (state.round + 1) = next-later state.round net.run.step in omega (arith, first, begun, more));
+        begun = (let begun = line.begun in omega (arith, first, begun, more));
         ends = later;
       };
+      soon = λ k d inside. (let by = (subst (BeginBy ((sensed_of state n).now + farthest_begin)) (sym same) soon) k d inside in omega (arith, by, at.now, more));
       past = λ second early. own.past second (subst (λ t. second < t) (sym at.now) early);
       waits = subst (λ t. IsRound (plan_at net n) (intergreens_of net net.run.look n) t (line_of state n) new) at.now
           (subst (IsRound (plan_at net n) (intergreens_of net net.run.look n) (sensed_of state n).now (line_of state n)) (sym same)
           (continues net network n below state.round (line_of state n) (sensed_of state n) heard c at.sensed.now (record { lawful = line.lawful; begins = line.begins }) commit));
     }
 
-module _ (net : Net) (network : IsNetwork net) (state : RoundState) (is : IsStateOf net state) where
+module _ (net : Net) (network : IsNetwork net) (state : RoundState) (asked : Asked) (is : IsStateOf net asked state) where
   -- the forecast of the version that a board has
   back-by : (b : Bool) (old : LinkBoard) (told : List Row)
       → (if (if b then next_board old told else old).version == old.version then old.forecast else told) ≡ (if b then next_board old told else old).forecast
@@ -107,7 +115,7 @@ module _ (net : Net) (network : IsNetwork net) (state : RoundState) (is : IsStat
       ap (λ (f : List Row). record { link = x; version = (board_after net state made n x).version; forecast = f } ∷ map (λ (u : Used). record { link = u.link; version = u.version; forecast = forecast_of net state made u.link u.version }) (used_of (map (hearing_on (board_after net state made n)) xs))) (forecast-back made n x)
       ∙ ap (λ l. hearing_on (board_after net state made n) x ∷ l) (heard-back made n xs)
 
-  module _ (waiting : Waiting) (decided : Decided) (h : HaveTurned net state (length net.node_names) waiting decided) (d : Decision) (plans : d.plans ≡ decided.plans.items) (lines : d.lines ≡ decided.lines.items) (boards : d.boards ≡ decided.boards.items) where
+  module _ (wants : (n : ℕ) → IsAsked asked n) (waiting : Waiting) (decided : Decided) (h : HaveTurned net state (length net.node_names) waiting decided) (d : Decision) (plans : d.plans ≡ decided.plans.items) (lines : d.lines ≡ decided.lines.items) (boards : d.boards ≡ decided.boards.items) where
     boards-are : decided.boards.items ≡ map (board_after net state h.made (length net.node_names)) (range_with_len 0 (length net.link_names))
     boards-are = ext_get_or no_board decided.boards.items (map (board_after net state h.made (length net.node_names)) (range_with_len 0 (length net.link_names)))
         (h.count ∙ is.board_count ∙ sym (length-map-range_with_len (board_after net state h.made (length net.node_names)) 0 (length net.link_names)))
@@ -137,7 +145,7 @@ module _ (net : Net) (network : IsNetwork net) (state : RoundState) (is : IsStat
         ∙ get_or-map-range_with_len (λ k. (h.made k).line) 0 (length net.node_names) n n [] below (let e : 0 + n ≡ n = omega arith in e)
 
     goes : (n : ℕ) → n < length net.node_names → GoesOnAt net state.round n (line_of state n) (decided_line d n)
-    goes n below = goes-on net network state is n below (heard_in net state h.made n) (h.made n) (h.commits n below) (decided_line d n) (line-is n below)
+    goes n below = goes-on net network state asked is n below (wants n) (heard_in net state h.made n) (h.made n) (h.commits n below) (decided_line d n) (line-is n below)
         (subst (λ (l : List Green). begin_of net (state.round + 1) < end_of l) (sym (line-is n below)) (h.later n below))
 
     -- each board is one for the next round
@@ -171,27 +179,27 @@ module _ (net : Net) (network : IsNetwork net) (state : RoundState) (is : IsStat
       let same : get_or d.boards k x ≡ (if tells net n k then next_board old told else old) = get_or_default d.boards k x no_board inside ∙ turn.boards.each k below in
       subst (IsBoard (state.round + 1)) (sym same) (board-next (tells net n k) state.round old told (is.boards k no_board below) (subst (λ (b : LinkBoard). IsForecast b.forecast) same (forecasts k x inside)))
 
-  kept-turn : (n : ℕ) → n < length net.node_names → (d : NodeDecision) → IsTurn net state.round n (line_of state n) (sensed_of state n) state.boards d.boards d.plan d.line → begin_of net (state.round + 1) < end_of d.line → All (λ (b : LinkBoard). IsForecast b.forecast) d.boards → IsKeptTurn net state n d
-  kept-turn n below d turn later forecasts = record {
+  kept-turn : (n : ℕ) → n < length net.node_names → IsAsked asked n → (d : NodeDecision) → IsTurn net state.round n (line_of state n) (sensed_of state n) state.boards d.boards d.plan d.line → begin_of net (state.round + 1) < end_of d.line → All (λ (b : LinkBoard). IsForecast b.forecast) d.boards → IsKeptTurn net state n d
+  kept-turn n below wanted d turn later forecasts = record {
     is = turn;
     links = ap (λ (p : PlanRecord). map (λ (u : Used). u.link) p.used) turn.plan_is ∙ used-links (heard_on net (board_of state.boards) n) ∙ links-on (board_of state.boards) (heard_links net n);
     least = subst (λ (p : PlanRecord). IsLeast p.instance p.answer) (sym turn.plan_is) (best-least turn.made.problem turn.made.answer turn.commit.answer);
-    line = goes-on net network state is n below (heard_on net (board_of state.boards) n) turn.made turn.commit d.line turn.line_is later;
+    line = goes-on net network state asked is n below wanted (heard_on net (board_of state.boards) n) turn.made turn.commit d.line turn.line_is later;
     boards = turned-boards n d turn forecasts;
   }
 
-  pub kept-turn-at : (n : ℕ) → n < length net.node_names → (line : List Green) (sensed : Sensed) (old new : List LinkBoard) → line ≡ line_of state n → sensed ≡ sensed_of state n → old ≡ state.boards
+  pub kept-turn-at : (n : ℕ) → n < length net.node_names → IsAsked asked n → (line : List Green) (sensed : Sensed) (old new : List LinkBoard) → line ≡ line_of state n → sensed ≡ sensed_of state n → old ≡ state.boards
       → (d : NodeDecision) → d.boards ≡ new → IsTurn net state.round n line sensed old new d.plan d.line → begin_of net (state.round + 1) < end_of d.line → All (λ (b : LinkBoard). IsForecast b.forecast) d.boards → IsKeptTurn net state n d
-  kept-turn-at n below line sensed old new lines senses boards d after turn later forecasts =
-      kept-turn n below d
+  kept-turn-at n below wanted line sensed old new lines senses boards d after turn later forecasts =
+      kept-turn n below wanted d
       (subst (λ (l : List Green). IsTurn net state.round n l (sensed_of state n) state.boards d.boards d.plan d.line) lines
       (subst (λ (s : Sensed). IsTurn net state.round n line s state.boards d.boards d.plan d.line) senses
       (subst (λ (b : List LinkBoard). IsTurn net state.round n line sensed b d.boards d.plan d.line) boards
       (subst (λ (b : List LinkBoard). IsTurn net state.round n line sensed old b d.plan d.line) (sym after) turn)))) later forecasts
 
 -- the state from which the turns began
-pub kept-from : (net : Net) → IsNetwork net → (state begun : RoundState) → begun ≡ state → IsStateOf net state → (waiting : Waiting) (decided : Decided) → HaveTurned net begun (length net.node_names) waiting decided
+pub kept-from : (net : Net) → IsNetwork net → (state begun : RoundState) → begun ≡ state → IsStateOf net AllNodes state → (waiting : Waiting) (decided : Decided) → HaveTurned net begun (length net.node_names) waiting decided
     → (d : Decision) → d.plans ≡ decided.plans.items → d.lines ≡ decided.lines.items → d.boards ≡ decided.boards.items → All (λ (b : LinkBoard). IsForecast b.forecast) decided.boards.items
     → IsKeptDecision net state d
 kept-from net network state begun same is waiting decided turned d plans lines boards forecasts =
-    kept-decision net network state is waiting decided (subst (λ (s : RoundState). HaveTurned net s (length net.node_names) waiting decided) same turned) d plans lines boards forecasts
+    kept-decision net network state AllNodes is (λ n. tt) waiting decided (subst (λ (s : RoundState). HaveTurned net s (length net.node_names) waiting decided) same turned) d plans lines boards forecasts

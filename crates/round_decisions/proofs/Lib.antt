@@ -6,6 +6,7 @@ pub mod LineLaws
 pub mod OfRunLaws
 pub mod PlayLaws
 pub mod RoundLaws
+pub mod SoonLaws
 pub mod TellLaws
 pub mod TurnPlaces
 pub mod WritableLaws

@@ -19,6 +19,7 @@ use Rattle.road_net.specs.Joins.{is_node}
 use Rattle.road_net.specs.Network.{IsNetwork, heard_links}
 use Rattle.road_net.specs.declared.senses.Sensed.{Sensed}
 use Rattle.round_states.specs.States.{IsStateOf, begin_of, no_sense}
+use Rattle.round_states.specs.declared.asked.Asked.TheVariants.{AllNodes, OneNode}
 use Rattle.round_states.specs.declared.states.LinkBoard.{LinkBoard}
 use Rattle.round_states.specs.declared.states.RoundState.{RoundState}
 use Rattle.runs.proofs.SameParts.{map-range-same}
@@ -134,7 +135,7 @@ turned-none net state waiting decided sensed lines boards plans none made = reco
     at-first None t old new = refl
     at-first (Some k) t old new = sym (ap (λ b. if b && t then new else old) (le-ltb k 0 (omega arith)))
 
-module _ (net : Net) (network : IsNetwork net) (state : RoundState) (is : IsStateOf net state) (n : ℕ) (less : n < length net.node_names) (waits : Waiting) (old : Decided) (h : HaveTurned net state n waits old) where
+module _ (net : Net) (network : IsNetwork net) (state : RoundState) (is : IsStateOf net AllNodes state) (n : ℕ) (less : n < length net.node_names) (waits : Waiting) (old : Decided) (h : HaveTurned net state n waits old) where
   pub sensed-left : 0 < length waits.sensed.items
   sensed-left = (let long = drop-long n state.sensed (omega (arith, is.sensed_count)) in omega (arith, ap length h.sensed, long))
 
@@ -159,7 +160,7 @@ module _ (net : Net) (network : IsNetwork net) (state : RoundState) (is : IsStat
 
   pub can-turn : CanTurn net state.round n (get_or waits.lines.items 0 []) (get_or waits.sensed.items 0 no_sense) old.boards.items
   can-turn =
-      let line = is.lines n less in
+      let line = is.lines n less tt in
       subst (λ (l : List Green). CanTurn net state.round n l (get_or waits.sensed.items 0 no_sense) old.boards.items) (sym own-line)
       (subst (λ (s : Sensed). CanTurn net state.round n (line_of state n) s old.boards.items) (sym own-sensed) (record {
         node_is = less;
@@ -243,9 +244,9 @@ module _ (net : Net) (network : IsNetwork net) (state : RoundState) (is : IsStat
     }
 
 -- in a state each node may have its turn
-can-from-state : (net : Net) → IsNetwork net → (state : RoundState) → IsStateOf net state → (n : ℕ) → n < length net.node_names → CanTurn net state.round n (line_of state n) (sensed_of state n) state.boards
-can-from-state net network state is n below =
-    let line = is.lines n below in
+can-from-state : (net : Net) → IsNetwork net → (state : RoundState) (n : ℕ) → IsStateOf net (OneNode (Some n)) state → n < length net.node_names → CanTurn net state.round n (line_of state n) (sensed_of state n) state.boards
+can-from-state net network state n is below =
+    let line = is.lines n below refl in
     record {
       node_is = below;
       more = is.round;
@@ -257,9 +258,9 @@ can-from-state net network state is n below =
       below = λ link inside told. (let most = (is.boards link no_board inside).version in omega (arith, most, is.round, network.outline.run.rounds.1));
     }
 
-pub can-at : (net : Net) → IsNetwork net → (state : RoundState) → IsStateOf net state → (n : ℕ) → n < length net.node_names → (line : List Green) (sensed : Sensed) (boards : List LinkBoard)
+pub can-at : (net : Net) → IsNetwork net → (state : RoundState) (n : ℕ) → IsStateOf net (OneNode (Some n)) state → n < length net.node_names → (line : List Green) (sensed : Sensed) (boards : List LinkBoard)
     → line ≡ line_of state n → sensed ≡ sensed_of state n → boards ≡ state.boards → CanTurn net state.round n line sensed boards
-can-at net network state is n below line sensed boards lines senses same =
+can-at net network state n is below line sensed boards lines senses same =
     subst (λ (l : List Green). CanTurn net state.round n l sensed boards) (sym lines)
     (subst (λ (s : Sensed). CanTurn net state.round n (line_of state n) s boards) (sym senses)
-    (subst (λ (b : List LinkBoard). CanTurn net state.round n (line_of state n) (sensed_of state n) b) (sym same) (can-from-state net network state is n below)))
+    (subst (λ (b : List LinkBoard). CanTurn net state.round n (line_of state n) (sensed_of state n) b) (sym same) (can-from-state net network state n is below)))

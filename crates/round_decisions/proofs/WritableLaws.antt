@@ -5,6 +5,7 @@ use Rattle.intersection_actor.specs.declared.records.PlanRecord.{PlanRecord}
 use Rattle.net_parts.specs.Numbers.{Net}
 use Rattle.road_net.specs.Network.{IsNetwork}
 use Rattle.round_states.specs.States.{IsStateOf}
+use Rattle.round_states.specs.declared.asked.Asked.{Asked}
 use Rattle.round_states.specs.declared.states.RoundState.{RoundState}
 use Rattle.round_decisions.specs.Decisions.{board_after, plan_in}
 use Rattle.round_decisions.specs.Promises.{IsKeptDecision, IsKeptTurn}
@@ -13,7 +14,7 @@ use Rattle.round_decisions.specs.declared.decisions.NodeDecision.{NodeDecision}
 use Rattle.intersection_actor.proofs.UsedLinks.{used-exist}
 use Rattle.round_decisions.specs.DecisionTexts.{IsDecisionOf, IsNodeDecisionOf}
 
-module _ (net : Net) (network : IsNetwork net) (state : RoundState) (is : IsStateOf net state) where
+module _ {asked : Asked} (net : Net) (network : IsNetwork net) (state : RoundState) (is : IsStateOf net asked state) where
   -- a decision has plans of the network's nodes, a line of each, and a board of each link
   pub decision-of : (d : Decision) → IsKeptDecision net state d → IsDecisionOf net d
   decision-of d made = record {

@@ -4,6 +4,7 @@ use Rattle.board_model.specs.declared.boards.Heard.{Heard}
 use Rattle.board_model.specs.declared.forecasts.Row.{Row}
 use Rattle.clusters.specs.declared.vehicle_groups.Platoon.{Platoon}
 use Rattle.clusters.specs.declared.vehicle_groups.Window.{Window}
+use Rattle.control_flow.specs.Greens.{BeginBy}
 use Rattle.control_flow.specs.Signs.{sign_at}
 use Rattle.control_flow.specs.declared.greens.Green.{Green}
 use Rattle.histories.specs.Steps.{publisher}
@@ -13,7 +14,7 @@ use Rattle.intersection_actor.specs.declared.records.Used.{Used}
 use Rattle.net_parts.specs.Numbers.{Net}
 use Rattle.net_parts.specs.Outline.{plan_at}
 use Rattle.road_net.specs.Network.{heard_links}
-use Rattle.round_states.specs.States.{IsBoard, IsLineAt, begin_of}
+use Rattle.round_states.specs.States.{IsBoard, IsLineAt, begin_of, farthest_begin}
 use Rattle.round_states.specs.declared.states.RoundState.{RoundState}
 use Rattle.runs.specs.Runs.{told_in}
 use Rattle.schedule_meaning.specs.Best.{IsLeast}
@@ -45,11 +46,12 @@ pub record IsPlannedFrom (net : Net) (state : RoundState) (made : ℕ → Commit
   pub window : Window
   pub instance : IsProblemOf net plan.node (line_of state plan.node) (sensed_of state plan.node) (heard_by net state made plan) head platoons window plan.instance
 
--- How a node's line goes on from the second in which a round begins: it is one for the next round, before that second it shows the
--- same signs, and it is continued by lawful rows whose intergreens are no longer than the node looks ahead, or than yellow and
--- all-red take; so what bounds the waits under the line bounds them under the next one.
+-- How a node's line goes on from the second in which a round begins: it is one for the next round, none of its rows begins too late
+-- there, before that second it shows the same signs, and it is continued by lawful rows whose intergreens are no longer than the node
+-- looks ahead, or than yellow and all-red take; so what bounds the waits under the line bounds them under the next one.
 pub record GoesOnAt (net : Net) (round node : ℕ) (old new : List Green) : Type 0 where
   pub next : IsLineAt (plan_at net node) (begin_of net (round + 1)) new
+  pub soon : BeginBy (begin_of net (round + 1) + farthest_begin) new
   pub past : (second : ℕ) → second < begin_of net round → sign_at new second ≡ sign_at old second
   pub waits : IsRound (plan_at net node) (intergreens_of net net.run.look node) (begin_of net round) old new
 

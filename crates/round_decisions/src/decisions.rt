@@ -1,5 +1,5 @@
 //! Decisions of a round.
-ghost use Rattle.std.specs.Prelude.{◌<◌, All, IfOk, length};
+ghost use Rattle.std.specs.Prelude.{◌<◌, All, IfOk, Some, length};
 ghost use Rattle.board_model.specs.Forecasts.{IsForecast};
 ghost use Rattle.round_states.specs.States.{IsStateOf};
 ghost use Rattle.round_decisions.specs.Promises.{IsKeptDecision, IsKeptTurn};
@@ -11,7 +11,7 @@ use foundation::items::Items;
 use foundation::threads::CrossesThreads;
 use intersection_actor::PlanRecord;
 use road_net::{Network, law_of_network};
-use round_states::{LinkBoard, RoundState};
+use round_states::{Asked, LinkBoard, RoundState};
 use schedule_meaning::Planner;
 use std::alloc::{AllocError, Global};
 use std::collections::VecDeque;
@@ -58,7 +58,7 @@ pub fn decide<P: Planner>(
     state: RoundState,
     planner: &mut P,
 ) -> Result<Decision, AllocError>
-    requires { IsStateOf net.now state }
+    requires { IsStateOf net.now Asked.AllNodes state }
     ensures { IfOk result (IsKeptDecision net.now state) }
 {
     law_of_network(net);
@@ -113,7 +113,7 @@ pub fn decide_node<P: Planner>(
     node: u32,
     planner: &mut P,
 ) -> Result<NodeDecision, AllocError>
-    requires state { IsStateOf net.now state }
+    requires state { IsStateOf net.now (Asked.OneNode (Some node)) state }
     requires node { node < length net.now.node_names }
     ensures { IfOk result (IsKeptTurn net.now state node) }
 {

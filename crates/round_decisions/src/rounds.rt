@@ -7,7 +7,7 @@ use crate::node_turns::{NodeState, turn};
 use control_flow::greens::Timeline;
 use intersection_actor::PlanRecord;
 use road_net::{Network, Sensed};
-use round_states::LinkBoard;
+use round_states::{Asked, LinkBoard};
 use schedule_meaning::Planner;
 use std::alloc::{AllocError, Global};
 use std::collections::VecDeque;
@@ -65,7 +65,7 @@ pub(crate) fn take_turns<P: Planner>(
     decided: &mut Decided,
     planner: &mut P,
 ) -> Result<(), AllocError>
-    requires state { IsStateOf net.now (state_of round waiting.old decided.old) }
+    requires state { IsStateOf net.now Asked.AllNodes (state_of round waiting.old decided.old) }
     requires plans { decided.old.plans.items ≡ [] }
     requires lines { decided.old.lines.items ≡ [] }
     ensures { OnOk result (HaveTurned net.now (state_of round waiting.old decided.old) (length net.now.node_names)

@@ -1,5 +1,5 @@
 -- The state in which a round begins.
-use Rattle.std.specs.Prelude.{◌≡◌, ℕ, ◌+◌, ◌*◌, ◌<◌, ◌≤◌, List, [], All, length, slice_index_or}
+use Rattle.std.specs.Prelude.{◌≡◌, ℕ, ◌+◌, ◌*◌, ◌<◌, ◌≤◌, List, [], All, Some, length, slice_index_or}
 use Rattle.board_model.specs.Forecasts.{IsForecast}
 use Rattle.control_flow.specs.declared.greens.Green.{Green}
 use Rattle.control_flow.specs.Greens.{BeginBy, IsLawful, end_of, row_at}
@@ -8,12 +8,24 @@ use Rattle.net_parts.specs.Outline.{plan_at}
 use Rattle.phase_plan.specs.declared.Phase.{Phase}
 use Rattle.road_net.specs.declared.senses.Sensed.{Sensed}
 use Rattle.road_net.specs.Senses.{IsSensedOf}
+use Rattle.round_states.specs.declared.asked.Asked.{Asked}
+use Rattle.round_states.specs.declared.asked.Asked.TheVariants.{AllNodes, OneNode}
 use Rattle.round_states.specs.declared.states.LinkBoard.{LinkBoard}
 use Rattle.round_states.specs.declared.states.RoundState.{RoundState}
 
 -- the last second in which a row of a timeline may begin
 abbrev pub last_begin : ℕ
 last_begin = 100000
+
+-- no row of a timeline begins later than this many seconds after the begin of a round: the longest that a network looks ahead,
+-- 180, and the longest that a cluster may wait then, 3,600
+abbrev pub farthest_begin : ℕ
+farthest_begin = 3780
+
+-- a node is to have its turn
+abbrev pub IsAsked : Asked → ℕ → Type 0
+IsAsked AllNodes node = Unit {0}
+IsAsked (OneNode asked) node = asked ≡ Some node
 
 -- the second in which a round begins
 abbrev pub begin_of : Net → ℕ → ℕ
@@ -42,13 +54,15 @@ pub record IsBoard (round : ℕ) (board : LinkBoard) : Type 0 where
   pub forecast : IsForecast board.forecast
   pub none : board.version ≡ 0 → board.forecast ≡ []
 
--- The state in which a round of the network begins, or in which some of its nodes have had their turns: each node senses its entry
--- links in the first second of the round, and its timeline goes on there, and each link has a board.
-pub record IsStateOf (net : Net) (state : RoundState) : Type 0 where
+-- The state in which a round of the network begins, or in which some of its nodes have had their turns, and these nodes are to have
+-- theirs: each node senses its entry links in the first second of the round, the timelines of those that are asked go on there, none has a
+-- row that begins too late, and each link has a board.
+pub record IsStateOf (net : Net) (asked : Asked) (state : RoundState) : Type 0 where
   pub round : state.round < net.run.rounds
   pub sensed_count : length state.sensed ≡ length net.node_names
   pub sensed : (n : ℕ) → n < length net.node_names → IsSensedAt net (begin_of net state.round) n (slice_index_or state.sensed n no_sense)
   pub line_count : length state.lines ≡ length net.node_names
-  pub lines : (n : ℕ) → n < length net.node_names → IsLineAt (plan_at net n) (begin_of net state.round) (slice_index_or state.lines n [])
+  pub lines : (n : ℕ) → n < length net.node_names → IsAsked asked n → IsLineAt (plan_at net n) (begin_of net state.round) (slice_index_or state.lines n [])
+  pub soon : (n : ℕ) → n < length net.node_names → BeginBy (begin_of net state.round + farthest_begin) (slice_index_or state.lines n [])
   pub board_count : length state.boards ≡ length net.link_names
   pub boards : All (IsBoard state.round) state.boards

@@ -1,16 +1,18 @@
 -- Which state a text stands for.
-use Rattle.std.specs.Prelude.{◌≡◌, ℕ, ◌/◌, ◌<◌, ◌≤◌, ◌==◌, if◌then◌else◌, List, Option, Some, None, filter_map, length, map, slice_index_or}
+use Rattle.std.specs.Prelude.{◌≡◌, ℕ, ◌/◌, ◌<◌, ◌≤◌, ◌==◌, ◌⊎◌, if◌then◌else◌, List, Option, Some, None, filter_map, length, map, slice_index_or}
 use Rattle.std.specs.List.{range_with_len}
 use Rattle.std.specs.List.Sorted.{IsStrictlyIncreasing}
 use Rattle.board_model.specs.declared.forecasts.Row.{Row}
 use Rattle.board_model.specs.Forecasts.{amount_at, seconds}
 use Rattle.control_flow.specs.declared.greens.Green.{Green}
 use Rattle.net_parts.specs.Numbers.{Net}
-use Rattle.net_parts.specs.Outline.{link_at}
+use Rattle.net_parts.specs.Outline.{link_at, plan_at}
 use Rattle.record_text.specs.Forms.{Form, IsTextOf}
 use Rattle.road_net.specs.declared.senses.LinkSense.{LinkSense}
 use Rattle.road_net.specs.declared.senses.Sensed.{Sensed}
 use Rattle.road_net.specs.Network.{entry_links}
+use Rattle.round_states.specs.declared.asked.Asked.{Asked}
+use Rattle.round_states.specs.declared.asked.Asked.TheVariants.{AllNodes, OneNode}
 use Rattle.round_states.specs.declared.entries.Entry.{Entry}
 use Rattle.round_states.specs.declared.entries.StateRecord.{StateRecord}
 use Rattle.round_states.specs.declared.entries.StateRecord.TheVariants.{Shows, Stands, Comes, Publishes, Tells}
@@ -18,7 +20,7 @@ use Rattle.round_states.specs.declared.entries.Standing.{Standing}
 use Rattle.round_states.specs.declared.states.LinkBoard.{LinkBoard}
 use Rattle.round_states.specs.declared.states.RoundState.{RoundState}
 use Rattle.round_states.specs.Order.{AreInOrder, now_of}
-use Rattle.round_states.specs.States.{IsBoard, IsStateOf}
+use Rattle.round_states.specs.States.{IsAsked, IsBoard, IsLineAt, IsStateOf}
 use Rattle.round_states.specs.StateRecords.{parse_in, header}
 
 -- the green, the queue, what comes, the version or the row that is said, each where this is what is said
@@ -100,19 +102,36 @@ pub record IsBoardOnce (net : Net) (es : List Entry) (link : ℕ) : Type 0 where
   pub version : length (all_said version_said es link) ≤ 1
   pub board : IsBoard (round_in net es) (board_in es link)
 
--- Records that tell a state: they stand in order, say of each link once what is said once, and what they tell is a state in which
--- a round begins.
-pub record TellState (net : Net) (es : List Entry) (state : RoundState) : Type 0 where
+-- the greens of a node are its timeline as the round begins, where it is to have its turn or has any
+abbrev pub GoesOn : Net → Asked → List Entry → ℕ → Type 0
+GoesOn net asked es node = IsAsked asked node ⊎ (0 < length (all_said green_said es node)) → IsLineAt (plan_at net node) (now_of es) (all_said green_said es node)
+
+-- a queue has stood for as many seconds as it can have by a second: none where there is no queue, and no more than there were
+pub record CanHaveStood (now : ℕ) (queue : Standing) : Type 0 where
+  pub some : 0 < queue.stood → 0 < queue.amount
+  pub since : queue.stood ≤ now
+
+-- where all nodes are to have their turns, none has told on a link in this round
+abbrev pub IsUntold : Net → Asked → List Entry → ℕ → Type 0
+IsUntold net AllNodes es link = version_in es link ≤ round_in net es
+IsUntold net (OneNode asked) es link = Unit {0}
+
+-- Records that tell a state for these nodes: they stand in order, say of each link once what is said once and can be so, and what they
+-- tell is a state in which a round begins, or in which some nodes have had their turns.
+pub record TellState (net : Net) (asked : Asked) (es : List Entry) (state : RoundState) : Type 0 where
   pub order : AreInOrder net es
   pub senses : (l : ℕ) → l < length net.link_names → IsSensedOnce es l
   pub boards : (l : ℕ) → l < length net.link_names → IsBoardOnce net es l
+  pub lines : (n : ℕ) → n < length net.node_names → GoesOn net asked es n
+  pub stood : (l : ℕ) → l < length net.link_names → CanHaveStood (now_of es) (queue_in es l)
+  pub untold : (l : ℕ) → l < length net.link_names → IsUntold net asked es l
   pub parsed : state ≡ state_in net es
-  pub is : IsStateOf net state
+  pub is : IsStateOf net asked state
 
 -- the form of the text: records after the first tell a state in order
-abbrev pub form : Net → Form Entry RoundState
-form net = record { header = header; read = parse_in net; lawful = AreInOrder net; is_of = TellState net }
+abbrev pub form : Net → Asked → Form Entry RoundState
+form net asked = record { header = header; read = parse_in net; lawful = AreInOrder net; is_of = TellState net asked }
 
--- the state of a text
-abbrev pub IsStateText : Net → List ℕ → RoundState → Type 0
-IsStateText net bytes state = IsTextOf (form net) bytes state
+-- the state of a text that is read for these nodes
+abbrev pub IsStateText : Net → Asked → List ℕ → RoundState → Type 0
+IsStateText net asked bytes state = IsTextOf (form net asked) bytes state

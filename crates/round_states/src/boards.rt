@@ -8,6 +8,7 @@ ghost use Rattle.round_states.specs.States.{IsBoard};
 ghost use Rattle.round_states.specs.Readers.{IsByPlace};
 ghost use Rattle.round_states.specs.Texts.{IsBoardOnce, all_said, board_in, row_said, version_said};
 
+use crate::asked::Asked;
 use crate::by_place::{ByPlace, list_of};
 use crate::entries::Entry;
 use crate::faults::StateFault;
@@ -31,6 +32,7 @@ const MOST_IN_SECOND: u32 = 80_000;
 pub(crate) fn boards(
     alloc: Global,
     net: &Network,
+    asked: Asked,
     entries: &[Entry],
     content: &ByPlace,
 ) -> Result<Vec<LinkBoard>, StateFault>
@@ -39,7 +41,7 @@ pub(crate) fn boards(
     ensures ok { IfOk result (λ boards. boards.items
         ≡ map (board_in entries.now) (range_with_len 0 (length net.now.link_names))) }
     ensures each { OnOk result ((l : ℕ) → l < length net.now.link_names → IsBoardOnce net.now entries.now l) }
-    ensures first { IfErr result (IsEntryFault net.now entries.now) }
+    ensures first { IfErr result (IsEntryFault net.now asked entries.now) }
 {
     let mut boards = Vec::new(alloc);
     for link in 0..net.links() {

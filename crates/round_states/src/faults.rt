@@ -24,10 +24,17 @@ pub enum StateFault {
     /// The least link whose version is told twice or is more than one above the number of the round, or whose rows are no
     /// forecast, or whose forecast has rows and no version.
     Board(u32),
-    /// The least node whose greens are no lawful timeline that goes on in the first second of the round.
+    /// The least node whose greens are no lawful timeline that goes on in the first second of the round. A node that is not asked
+    /// may have none.
     Line(u32),
     /// The least node that senses more than 2,000,000,000 thousandths of a vehicle.
     Sum(u32),
+    /// The least link whose queue is 0 and has stood, or has stood for more seconds than there were.
+    Stood(u32),
+    /// The least node of whose greens one begins more than 3,780 seconds after the begin of the round.
+    Late(u32),
+    /// Where all nodes are asked: the least link whose version is above the number of the round.
+    Told(u32),
 }
 
 impl CrossesThreads for StateFault {}

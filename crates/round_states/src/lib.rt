@@ -2,17 +2,20 @@
 //! a network begins; and its text.
 #![tactic(auto)]
 
+mod asked;
 mod boards;
 mod by_place;
 mod entries;
 mod faults;
 mod fields;
+mod limits;
 mod lines;
 mod order;
 mod senses;
 mod states;
 mod texts;
 
+pub use asked::Asked;
 pub use faults::StateFault;
 pub use states::{LinkBoard, RoundState};
 pub use texts::read_state;

@@ -1,16 +1,17 @@
 //! The timelines of a state.
-ghost use Rattle.std.specs.Prelude.{◌≡◌, ◌↔◌, IfErr, IfOk, IsTrue, MatchOption, ℕ, ◌<◌, length, map};
+ghost use Rattle.std.specs.Prelude.{◌≡◌, ◌↔◌, IfErr, IfOk, IsTrue, MatchOption, OnOk, ℕ, ◌<◌, length, map};
 ghost use Rattle.std.specs.List.{range_with_len};
 ghost use Rattle.control_flow.specs.Greens.{BeginBy, end_of};
 ghost use Rattle.net_parts.specs.Outline.{plan_at};
 ghost use Rattle.phase_plan.specs.Phases.{IsPlan};
 ghost use Rattle.road_net.specs.Network.{IsNetwork};
-ghost use Rattle.round_states.specs.Faults.{AreBoardsOnce, AreSensedOnce, GoesOn, IsEntryFault};
+ghost use Rattle.round_states.specs.Faults.{AreBoardsOnce, AreSensedOnce, IsEntryFault};
 ghost use Rattle.round_states.specs.Order.{now_of};
-ghost use Rattle.round_states.specs.States.{IsLineAt, last_begin};
+ghost use Rattle.round_states.specs.States.{IsAsked, IsLineAt, last_begin};
 ghost use Rattle.round_states.specs.Readers.{IsByPlace};
-ghost use Rattle.round_states.specs.Texts.{all_said, green_said};
+ghost use Rattle.round_states.specs.Texts.{GoesOn, all_said, green_said};
 
+use crate::asked::Asked;
 use crate::by_place::{ByPlace, list_of};
 use crate::entries::Entry;
 use crate::faults::StateFault;
@@ -24,11 +25,12 @@ use std::alloc::{AllocError, Global};
 /// The last second in which a row of a timeline may begin.
 const LAST_BEGIN: u32 = 100_000;
 
-/// The timeline of each node, where what is sensed of each link and its board are told once. The fault is `Line` of the
-/// least node whose greens are none.
+/// The timeline of each node, where what is sensed of each link and its board are told once; with no row where none is told
+/// and the node is not asked. The fault is `Line` of the least node whose greens are none.
 pub(crate) fn lines(
     alloc: Global,
     net: &Network,
+    asked: Asked,
     entries: &[Entry],
     content: &ByPlace,
 ) -> Result<Vec<Timeline>, StateFault>
@@ -37,13 +39,13 @@ pub(crate) fn lines(
     requires boards { AreBoardsOnce net.now entries.now }
     ensures ok { IfOk result (λ lines. lines.items
         ≡ map (all_said green_said entries.now) (range_with_len 0 (length net.now.node_names))) }
-    ensures each { IfOk result (λ lines. (n : ℕ) → n < length net.now.node_names → GoesOn net.now entries.now n) }
-    ensures first { IfErr result (IsEntryFault net.now entries.now) }
+    ensures each { OnOk result ((n : ℕ) → n < length net.now.node_names → GoesOn net.now asked entries.now n) }
+    ensures first { IfErr result (IsEntryFault net.now asked entries.now) }
 {
     let mut lines = Vec::new(alloc);
     for node in 0..net.nodes() {
         let greens = list_of(content.greens.as_slice(), node);
-        let Some(line) = line(alloc, net, entries, node, greens)? else {
+        let Some(line) = line(alloc, net, asked, entries, node, greens)? else {
             return Err(StateFault::Line(node));
         };
         lines.push(line)?;
@@ -51,25 +53,38 @@ pub(crate) fn lines(
     Ok(lines)
 }
 
-/// The timeline of a node, where its greens, which are told, are one that goes on as the round begins. `Err`: out of memory.
+/// The timeline of a node, where its greens, which are told, are one that goes on as the round begins, or none is asked for.
+/// `Err`: out of memory.
 fn line(
     alloc: Global,
     net: &Network,
+    asked: Asked,
     entries: &[Entry],
     node: u32,
     greens: &[Green],
 ) -> Result<Option<Timeline>, AllocError>
     requires node { node < length net.now.node_names }
     requires greens { greens.now ≡ all_said green_said entries.now node }
-    ensures { IfOk result (λ line. MatchOption line (¬ GoesOn net.now entries.now node)
-        (λ line. (line ≡ all_said green_said entries.now node) × GoesOn net.now entries.now node)) }
+    ensures { IfOk result (λ line. MatchOption line (¬ GoesOn net.now asked entries.now node)
+        (λ line. (line ≡ all_said green_said entries.now node) × GoesOn net.now asked entries.now node)) }
 {
-    if !goes_on(net.plan(node), now_of(entries), greens) {
+    let is_wanted = is_asked(asked, node) || !greens.is_empty();
+    if is_wanted && !goes_on(net.plan(node), now_of(entries), greens) {
         return Ok(None);
     }
     let mut rows = Vec::with_capacity(alloc, greens.len())?;
     rows.extend_from_slice(greens)?;
     Ok(Some(Timeline::from_rows(rows)))
+}
+
+/// Whether a node is to have its turn.
+fn is_asked(asked: Asked, node: u32) -> bool
+    ensures { IsTrue result ↔ IsAsked asked node }
+{
+    match asked {
+        Asked::AllNodes => true,
+        Asked::OneNode(one) => one == Some(node),
+    }
 }
 
 /// Whether rows are a timeline that goes on in this second.

@@ -11,6 +11,7 @@ ghost use Rattle.round_states.specs.Order.{now_of};
 ghost use Rattle.round_states.specs.Readers.{IsByPlace};
 ghost use Rattle.round_states.specs.Texts.{IsSensedOnce, all_said, coming_in, coming_said, queue_said, sense_in, sensed_in};
 
+use crate::asked::Asked;
 use crate::boards::are_rising;
 use crate::by_place::{ByPlace, list_of};
 use crate::entries::{Entry, Standing};
@@ -27,12 +28,13 @@ const MOST: u32 = 2_000_000_000;
 /// Tests that what is sensed of each link is told once. The fault is `Sense` of the least link of which it is not.
 pub(crate) fn check_senses(
     net: &Network,
+    asked: Asked,
     entries: &[Entry],
     content: &ByPlace,
 ) -> Result<(), StateFault>
     requires { IsByPlace net.now entries.now content.now }
     ensures ok { OnOk result ((l : ℕ) → l < length net.now.link_names → IsSensedOnce entries.now l) }
-    ensures first { IfErr result (IsEntryFault net.now entries.now) }
+    ensures first { IfErr result (IsEntryFault net.now asked entries.now) }
 {
     for link in 0..net.links() {
         let queues = list_of(content.queues.as_slice(), link);
@@ -59,6 +61,7 @@ fn is_sensed_once(entries: &[Entry], link: u32, queues: &[Standing], rows: &[Row
 pub(crate) fn senses(
     alloc: Global,
     net: &Network,
+    asked: Asked,
     entries: &[Entry],
     content: &ByPlace,
 ) -> Result<Vec<Sensed>, StateFault>
@@ -66,11 +69,11 @@ pub(crate) fn senses(
     requires now { now_of entries.now ≤ most_seconds }
     requires senses { AreSensedOnce net.now entries.now }
     requires boards { AreBoardsOnce net.now entries.now }
-    requires lines { AllGoOn net.now entries.now }
+    requires lines { AllGoOn net.now asked entries.now }
     ensures ok { IfOk result (λ all. all.items
         ≡ map (sensed_in net.now entries.now) (range_with_len 0 (length net.now.node_names))) }
     ensures few { OnOk result ((n : ℕ) → n < length net.now.node_names → SensesFew net.now entries.now n) }
-    ensures first { IfErr result (IsEntryFault net.now entries.now) }
+    ensures first { IfErr result (IsEntryFault net.now asked entries.now) }
 {
     let mut all = Vec::new(alloc);
     for node in 0..net.nodes() {
@@ -156,7 +159,7 @@ fn sense(
 }
 
 /// What stands where no queue is told.
-const NO_QUEUE: Standing = Standing {
+pub(crate) const NO_QUEUE: Standing = Standing {
     amount: 0,
     stood: 0,
 };

@@ -9,11 +9,13 @@ ghost use Rattle.round_states.specs.Readers.{Adds, IsByPlace, Reads};
 ghost use Rattle.round_states.specs.Texts.{IsStateText, TellState};
 ghost use Rattle.round_states.specs.declared.states.RoundState as spec;
 
+use crate::asked::Asked;
 use crate::boards::boards;
 use crate::by_place::{ByPlace, sort_entries};
 use crate::entries::{Entry, place_of};
 use crate::faults::StateFault;
 use crate::fields::read_said;
+use crate::limits::check_limits;
 use crate::lines::lines;
 use crate::order::{fits_after, round_of};
 use crate::senses::{check_senses, senses};
@@ -24,58 +26,70 @@ use record_text::{RecordTaker, is_record, take_records};
 use road_net::{Network, law_of_network};
 use std::alloc::Global;
 
-/// The state that a text tells, by the names of a network. A round of the network begins in it. The text has fewer than
-/// 2^32 bytes.
+/// The state that a text tells for these nodes, by the names of a network. A round of the network begins in it, or some nodes
+/// have had their turns. The text has fewer than 2^32 bytes.
 ///
 /// The fault is `NoMemory`; or `Header`, where the text does not begin with the header; or that of the first row at
-/// fault, within a row in the order `Row`, `Name`, `Time`; or else the first of `Sense`, `Board`, `Line` and `Sum`, at
-/// the least link or node.
+/// fault, within a row in the order `Row`, `Name`, `Time`; or else the first of `Sense`, `Board`, `Line`, `Sum`, `Stood`, `Late`
+/// and `Told`, at the least link or node.
 ///
 /// docs/FORMATS.md, "State of a round".
-pub fn read_state(alloc: Global, bytes: &[u8], net: &Network) -> Result<RoundState, StateFault>
+pub fn read_state(
+    alloc: Global,
+    bytes: &[u8],
+    net: &Network,
+    asked: Asked,
+) -> Result<RoundState, StateFault>
     requires { length bytes.now < 2 ^ 32 }
-    ensures ok { IfOk result (IsStateText net.now bytes.now) }
-    ensures state { IfOk result (IsStateOf net.now) }
+    ensures ok { IfOk result (IsStateText net.now asked bytes.now) }
+    ensures state { IfOk result (IsStateOf net.now asked) }
     ensures refused { IfErr result (λ fault. fault ≢ StateFault.NoMemory
-        → (state : spec.RoundState) → ¬ IsStateText net.now bytes.now state) }
-    ensures first { IfErr result (IsTextFault net.now bytes.now) }
+        → (state : spec.RoundState) → ¬ IsStateText net.now asked bytes.now state) }
+    ensures first { IfErr result (IsTextFault net.now asked bytes.now) }
 {
     let mut taker = StateReader::none(alloc, net);
     match take_records(alloc, bytes, net, &mut taker) {
-        Ok(true) => state_of(alloc, net, taker.all.as_slice()),
+        Ok(true) => state_of(alloc, net, asked, taker.all.as_slice()),
         Ok(false) => Err(StateFault::Header),
         Err(fault) => Err(fault),
     }
 }
 
 /// The state that these records tell, which stand in order.
-fn state_of(alloc: Global, net: &Network, entries: &[Entry]) -> Result<RoundState, StateFault>
+fn state_of(
+    alloc: Global,
+    net: &Network,
+    asked: Asked,
+    entries: &[Entry],
+) -> Result<RoundState, StateFault>
     requires network { IsNetwork net.now }
     requires order { AreInOrder net.now entries.now }
-    ensures ok { IfOk result (TellState net.now entries.now) }
-    ensures first { IfErr result (IsEntryFault net.now entries.now) }
+    ensures ok { IfOk result (TellState net.now asked entries.now) }
+    ensures first { IfErr result (IsEntryFault net.now asked entries.now) }
 {
     let content = sort_entries(alloc, net, entries)?;
-    state_by(alloc, net, entries, &content)
+    state_by(alloc, net, asked, entries, &content)
 }
 
 /// The same, where this is what they say.
 fn state_by(
     alloc: Global,
     net: &Network,
+    asked: Asked,
     entries: &[Entry],
     content: &ByPlace,
 ) -> Result<RoundState, StateFault>
     requires network { IsNetwork net.now }
     requires order { AreInOrder net.now entries.now }
     requires content { IsByPlace net.now entries.now content.now }
-    ensures ok { IfOk result (TellState net.now entries.now) }
-    ensures first { IfErr result (IsEntryFault net.now entries.now) }
+    ensures ok { IfOk result (TellState net.now asked entries.now) }
+    ensures first { IfErr result (IsEntryFault net.now asked entries.now) }
 {
-    check_senses(net, entries, content)?;
-    let boards = boards(alloc, net, entries, content)?;
-    let lines = lines(alloc, net, entries, content)?;
-    let sensed = senses(alloc, net, entries, content)?;
+    check_senses(net, asked, entries, content)?;
+    let boards = boards(alloc, net, asked, entries, content)?;
+    let lines = lines(alloc, net, asked, entries, content)?;
+    let sensed = senses(alloc, net, asked, entries, content)?;
+    check_limits(net, asked, entries, content)?;
     Ok(RoundState {
         round: round_of(net, entries),
         sensed: Items::from_vec(sensed),

@@ -156,6 +156,9 @@ state_code (state.Sense link) = codes "sense " ++ decimal (link + 1)
 state_code (state.Board link) = codes "board " ++ decimal (link + 1)
 state_code (state.Line node) = codes "line " ++ decimal (node + 1)
 state_code (state.Sum node) = codes "sum " ++ decimal (node + 1)
+state_code (state.Stood link) = codes "stood " ++ decimal (link + 1)
+state_code (state.Late node) = codes "late " ++ decimal (node + 1)
+state_code (state.Told link) = codes "told " ++ decimal (link + 1)
 
 -- the code of what is wrong with a text: it is long, or the first line that has not its form, from 1, or else the fault
 -- of the phases, or else that of the instance; `NoMemory` is no fault of a text and has no code

@@ -98,5 +98,8 @@ pub(crate) fn push_state_code(line: &mut Vec<u8>, fault: StateFault) -> Result<(
         StateFault::Board(link) => push_one(line, b"board ", u64::from(link) + 1),
         StateFault::Line(node) => push_one(line, b"line ", u64::from(node) + 1),
         StateFault::Sum(node) => push_one(line, b"sum ", u64::from(node) + 1),
+        StateFault::Stood(link) => push_one(line, b"stood ", u64::from(link) + 1),
+        StateFault::Late(node) => push_one(line, b"late ", u64::from(node) + 1),
+        StateFault::Told(link) => push_one(line, b"told ", u64::from(link) + 1),
     }
 }

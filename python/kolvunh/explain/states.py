@@ -8,6 +8,7 @@ from .wording import enumeration, meant, thousands
 
 KINDS = ("now", "green", "queue", "coming", "version", "row", "plan")
 MOST_SECOND, MOST_AMOUNT, MOST_ROWS, MOST_SUM, MOST_NUMBER = 100_000, 80_000, 180, 2_000_000_000, 2**32 - 1
+FARTHEST_BEGIN = 3780  # seconds after the begin of a round
 CELLS: dict[str, dict[int, tuple[str, int | None, int | None]]] = {
     "now": {2: ("x, the second,", 10, None)},
     "green": {2: ("x, the phase,", 10, None), 3: ("y, the second from which it is green,", 10, None), 4: ("z, its end,", 10, None)},
@@ -201,8 +202,38 @@ def sum_fault(state: StateFile, item: str) -> list[str]:
     return [state.end(words)] if total > MOST_SUM else []
 
 
+def stood_fault(state: StateFile, item: str) -> list[str]:
+    """A queue that has stood for longer than it can have."""
+    name = state.net.names("link")[int(item) - 1]
+    for number, (amount, stood) in state.of("queue", name)[:1]:
+        if stood and not amount:
+            return [state.say(number, f"nothing stands on link {quote(name)}, and has to have stood for 0 seconds")]
+        if stood > state.now:
+            words = f"the queue of link {quote(name)} has stood for {plural(stood, 'second')}, and from second 0 to second {state.now} there are {state.now}"
+            return [state.say(number, words)]
+    return []
+
+
+def late_fault(state: StateFile, item: str) -> list[str]:
+    """A green that begins later than any that was planned by then."""
+    name, last = state.net.names("node")[int(item) - 1], state.now + FARTHEST_BEGIN
+    words = f"a green begins by second {state.now} + {FARTHEST_BEGIN} = {last}, where the round begins in second {state.now}: no plan looks farther"
+    return next(([state.say(number, words)] for number, green in state.of("green", name) if green[1] > last), [])
+
+
+def told_fault(state: StateFile, item: str) -> list[str]:
+    """A version of the round itself, where all nodes are to have their turns."""
+    name, done = state.net.names("link")[int(item) - 1], state.now // state.run["step"]
+    words = f"the round that begins in second {state.now} is number {done}, and where all nodes decide a version is at most {done}"
+    hint = "is this the decision of the same round? A node that has still to decide is the last word of the call"
+    return [state.say(number, f"{words}: {hint}") for number, (version,) in state.of("version", name) if version > done]
+
+
 OF_ROWS = {"row": row_fault, "name": name_fault, "time": time_fault}
-OF_ITEMS = {"sense": sense_fault, "board": board_fault, "line": line_fault, "sum": sum_fault}
+OF_ITEMS = {
+    "sense": sense_fault, "board": board_fault, "line": line_fault, "sum": sum_fault,
+    "stood": stood_fault, "late": late_fault, "told": told_fault,
+}  # fmt: skip
 
 
 def state_fault(file: str, network: str, code: list[str]) -> list[str]:
