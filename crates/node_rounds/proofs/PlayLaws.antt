@@ -15,7 +15,6 @@ use Rattle.histories.specs.declared.steps.BoardStep.TheVariants as steps
 use Rattle.intersection_actor.specs.Acting.{Acting, begun, resting, telling}
 use Rattle.intersection_actor.specs.Commits.{Commitment, IsCommit, phases_of, record_of}
 use Rattle.intersection_actor.specs.Rounds.{IsCommitted, IsOf, KeepsPast}
-use Rattle.intersection_actor.specs.declared.records.PlanRecord.{PlanRecord}
 use Rattle.intersection_actor.specs.declared.records.Want.TheVariants.{Done}
 use Rattle.histories.specs.Calls.{step_of}
 use Rattle.net_parts.specs.Numbers.{Net}
@@ -73,30 +72,15 @@ module _ (net : Net) (round : ℕ) (world : WorldState) (a b c d e f : Acting) (
   abbrev made : Commitment
   made = committed.made
 
-  -- what the actor keeps of its round
-  node-c : c.node ≡ a.node
-  node-c = ap (λ (x : Acting). x.node) heard.actor ∙ ap (λ (x : Acting). x.node) begins
-
-  round-c : c.round ≡ round
-  round-c = ap (λ (x : Acting). x.round) heard.actor ∙ ap (λ (x : Acting). x.round) begins
-
-  line-c : c.line ≡ a.line
-  line-c = ap (λ (x : Acting). x.line) heard.actor ∙ ap (λ (x : Acting). x.line) begins
-
-  sensed-c : c.sensed ≡ sensed
-  sensed-c = ap (λ (x : Acting). x.sensed) heard.actor ∙ ap (λ (x : Acting). x.sensed) begins
-
-  records-c : c.records ≡ a.records
-  records-c = ap (λ (x : Acting). x.records) heard.actor ∙ ap (λ (x : Acting). x.records) begins
-
   abbrev hears : List Heard
   hears = map heard_of heard.calls
 
-  heard-c : c.heard ≡ hears
-  heard-c = ap (λ (x : Acting). x.heard) heard.actor ∙ ap (λ (x : Acting). x.heard ++ hears) begins
+  -- the actor that has read all is the one that has begun the round, but for what it has heard
+  has-heard : c ≡ record (begun net round sensed a) { want = c.want; left = c.left; heard = hears }
+  has-heard = heard.actor ∙ ap (λ (x : Acting). record x { want = c.want; left = c.left; heard = x.heard ++ hears }) begins
 
   node-d : d.node ≡ a.node
-  node-d = ap (λ (x : Acting). x.node) committed.all ∙ node-c
+  node-d = ap (λ (x : Acting). x.node) committed.all ∙ ap (λ (x : Acting). x.node) has-heard
 
   links : map (λ (x : Call). x.link) heard.calls ≡ heard_links net a.node
   links =
@@ -104,18 +88,13 @@ module _ (net : Net) (round : ℕ) (world : WorldState) (a b c d e f : Acting) (
       ∙ ap (λ (x : Acting). x.left) begins
 
   commit : IsCommit net a.node round a.line sensed hears made
-  commit =
-      subst (λ k. IsCommit net k round a.line sensed hears made) node-c
-      (subst (λ k. IsCommit net c.node k a.line sensed hears made) round-c
-      (subst (λ (l : List Green). IsCommit net c.node c.round l sensed hears made) line-c
-      (subst (λ (s : Sensed). IsCommit net c.node c.round c.line s hears made) sensed-c
-      (subst (λ (l : List Heard). IsCommit net c.node c.round c.line c.sensed l made) heard-c committed.is))))
+  commit = subst (λ (x : Acting). IsCommit net x.node x.round x.line x.sensed x.heard made) has-heard committed.is
 
   -- what it tells on a link
   tells-is : (link : ℕ) → outgoing net link d ≡ told_in net round link made
   tells-is link =
       ap (outgoing net link) committed.all
-      ∙ ap (λ (s : Sensed). told_forecast net link s.now (departures made.window.lists (counts_of made.window.lists) (phases_of made.answer) made.served)) sensed-c
+      ∙ ap (λ (x : Acting). told_forecast net link x.sensed.now (departures made.window.lists (counts_of made.window.lists) (phases_of made.answer) made.served)) has-heard
       ∙ ap (λ n. told_forecast net link n (departures made.window.lists (counts_of made.window.lists) (phases_of made.answer) made.served)) commit.now
 
   abbrev calls : List Call
@@ -151,10 +130,10 @@ module _ (net : Net) (round : ℕ) (world : WorldState) (a b c d e f : Acting) (
         line = ap (λ (x : Acting). x.line) rests ∙ ap (λ (x : Acting). x.line) told.actor ∙ ap (λ (x : Acting). x.line) committed.all;
         ahead =
             subst (λ (l : List Green). (round + 1) * net.run.step < end_of l) (sym (ap (λ (x : Acting). x.line) rests ∙ ap (λ (x : Acting). x.line) told.actor))
-            (subst (λ k. (k + 1) * net.run.step < end_of d.line) round-c kept.later);
+            (subst (λ (x : Acting). (x.round + 1) * net.run.step < end_of d.line) has-heard kept.later);
         records =
-            ap (λ (x : Acting). x.records) rests ∙ ap (λ (x : Acting). x.records) told.actor ∙ ap (λ (x : Acting). x.records) committed.all ∙ ap (λ (l : List PlanRecord). l ++ record_of c.node c.round c.heard made ∷ []) records-c
-            ∙ ap (λ (x : PlanRecord). a.records ++ x ∷ []) (ap (λ k. record_of k c.round c.heard made) node-c ∙ ap (λ k. record_of a.node k c.heard made) round-c ∙ ap (λ (l : List Heard). record_of a.node round l made) heard-c);
+            ap (λ (x : Acting). x.records) rests ∙ ap (λ (x : Acting). x.records) told.actor ∙ ap (λ (x : Acting). x.records) committed.all
+            ∙ ap (λ (x : Acting). x.records ++ record_of x.node x.round x.heard made ∷ []) has-heard;
       };
       calls = of-round;
       made = made-both p q r heard.calls told.calls heard.made told.made;
