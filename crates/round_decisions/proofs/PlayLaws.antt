@@ -47,42 +47,26 @@ module _ (net : Net) (round : ℕ) (sensed : Sensed) (old new : List LinkBoard) 
   abbrev own : List Heard
   own = heard_on net (board_of old) a.node
 
-  node-c : c.node ≡ a.node
-  node-c = ap (λ (x : Acting). x.node) heard.actor ∙ ap (λ (x : Acting). x.node) begins
-
-  round-c : c.round ≡ round
-  round-c = ap (λ (x : Acting). x.round) heard.actor ∙ ap (λ (x : Acting). x.round) begins
-
-  line-c : c.line ≡ a.line
-  line-c = ap (λ (x : Acting). x.line) heard.actor ∙ ap (λ (x : Acting). x.line) begins
-
-  sensed-c : c.sensed ≡ sensed
-  sensed-c = ap (λ (x : Acting). x.sensed) heard.actor ∙ ap (λ (x : Acting). x.sensed) begins
-
-  records-c : c.records ≡ a.records
-  records-c = ap (λ (x : Acting). x.records) heard.actor ∙ ap (λ (x : Acting). x.records) begins
-
   heard-c : c.heard ≡ own
   heard-c =
       sym (append-nil c.heard) ∙ ap (λ (l : List ℕ). c.heard ++ map (hearing_on (board_of old)) l) (sym all) ∙ heard.whole
       ∙ ap (λ (x : Acting). x.heard ++ map (hearing_on (board_of old)) x.left) begins
 
-  commit : IsCommit net a.node round a.line sensed own made
-  commit =
-      subst (λ n. IsCommit net n round a.line sensed own made) node-c
-      (subst (λ r. IsCommit net c.node r a.line sensed own made) round-c
-      (subst (λ (l : List Green). IsCommit net c.node c.round l sensed own made) line-c
-      (subst (λ (s : Sensed). IsCommit net c.node c.round c.line s own made) sensed-c
-      (subst (λ (h : List Heard). IsCommit net c.node c.round c.line c.sensed h made) heard-c committed.is))))
+  -- the actor that has read all is the one that has begun the round, but for what it has heard
+  has-heard : c ≡ record (begun net round sensed a) { want = c.want; left = c.left; heard = own }
+  has-heard = heard.actor ∙ (λ i. record (begins i) { want = c.want; left = c.left; heard = heard-c i })
 
   node-d : d.node ≡ a.node
-  node-d = ap (λ (x : Acting). x.node) committed.all ∙ node-c
+  node-d = ap (λ (x : Acting). x.node) committed.all ∙ ap (λ (x : Acting). x.node) has-heard
+
+  commit : IsCommit net a.node round a.line sensed own made
+  commit = subst (λ (x : Acting). IsCommit net x.node x.round x.line x.sensed x.heard made) has-heard committed.is
 
   -- what it tells is what its commit tells
   tells-made : (link : ℕ) → outgoing net d link ≡ told_in net round link made
   tells-made link =
       ap (λ (x : Acting). told_forecast net link x.sensed.now (departures x.window.lists (counts_of x.window.lists) x.phases x.served)) committed.all
-      ∙ ap (λ (now : ℕ). told_forecast net link now (departures made.window.lists (counts_of made.window.lists) (phases_of made.answer) made.served)) (ap (λ (s : Sensed). s.now) sensed-c ∙ starts)
+      ∙ ap (λ (now : ℕ). told_forecast net link now (departures made.window.lists (counts_of made.window.lists) (phases_of made.answer) made.served)) (ap (λ (x : Acting). x.sensed.now) has-heard ∙ starts)
 
   pub played : HasPlayed net round sensed old new a e
   played = record {
@@ -90,10 +74,9 @@ module _ (net : Net) (round : ℕ) (sensed : Sensed) (old new : List LinkBoard) 
     commit = commit;
     line = ap (λ (x : Acting). x.line) done ∙ ap (λ (x : Acting). x.line) committed.all;
     records =
-        ap (λ (x : Acting). x.records) done ∙ ap (λ (x : Acting). x.records) committed.all ∙ ap (λ (l : List PlanRecord). l ++ record_of c.node c.round c.heard made ∷ []) records-c
-        ∙ ap (λ n. a.records ++ record_of n c.round c.heard made ∷ []) node-c ∙ ap (λ r. a.records ++ record_of a.node r c.heard made ∷ []) round-c
-        ∙ ap (λ (h : List Heard). a.records ++ record_of a.node round h made ∷ []) heard-c;
-    later = subst (λ (l : List Green). begin_of net (round + 1) < end_of l) (sym (ap (λ (x : Acting). x.line) done)) (subst (λ r. (r + 1) * net.run.step < end_of d.line) round-c kept.later);
+        ap (λ (x : Acting). x.records) done ∙ ap (λ (x : Acting). x.records) committed.all
+        ∙ ap (λ (x : Acting). x.records ++ record_of x.node x.round x.heard made ∷ []) has-heard;
+    later = subst (λ (l : List Green). begin_of net (round + 1) < end_of l) (sym (ap (λ (x : Acting). x.line) done)) (subst (λ (x : Acting). (x.round + 1) * net.run.step < end_of d.line) has-heard kept.later);
     boards = same-published net d.node a.node (outgoing net d) (λ link. told_in net round link made) old new node-d tells-made told;
   }
 
