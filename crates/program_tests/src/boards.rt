@@ -3,5 +3,4 @@
 mod at_once;
 mod copies;
 mod example;
-mod snap_example;
 mod waiters;

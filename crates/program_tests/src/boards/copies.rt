@@ -2,8 +2,7 @@
 ghost use Rattle.std.specs.Prelude.{◌≡◌, Some, ◌∷◌, [], All};
 ghost use denote.Param.Send.{IsSync};
 
-use super::example::{one_row, second_of};
-use super::snap_example::ENDS;
+use super::example::{ENDS, one_row, second_of};
 use crate::gates::wait_for;
 use board_model::OpenGate;
 use foundation::threads::CrossesThreads;
