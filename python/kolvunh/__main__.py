@@ -9,6 +9,7 @@
     sweep NET ARR ..          a network under several demands with several seeds
     orders NET ARR ..         a network in many orders of its nodes, and from which delay to which they come
     to-sumo, from-sumo, sumo-loop, compare-sumo ..    beside SUMO: docs in tools/sumo/README.md
+    compare-own, calibrate ..    SUMO's own network under its imported one: controllers side by side, what stop lines let through
     from-cityflow ROADNET FLOW DIR    CityFlow's files as a network file and arrivals
 
 Each says more with --help.
@@ -31,6 +32,8 @@ MODULES = {
     "from-sumo": "sumo.from_sumo",
     "sumo-loop": "sumo.loop",
     "compare-sumo": "sumo.compare_sumo",
+    "compare-own": "sumo.compare_own",
+    "calibrate": "sumo.calibrate",
 }
 
 

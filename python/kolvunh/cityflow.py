@@ -1,6 +1,6 @@
 """Makes a network file and arrivals of CityFlow's files.
 
-    kolvunh from-cityflow ROADNET.json FLOW.json DIR
+    tools/sumo/from_cityflow.py ROADNET.json FLOW.json DIR
 
 An intersection with traffic lights is a node, and its light phases are its phases; one that only has links which every other phase
 has too is the change between two greens. A node has 4 phases at most: what is left out is told on standard error, as is all else that

@@ -39,7 +39,7 @@ class ToldSensors(Sensors):
         return self._told
 
 
-def ring_answer(state):
+def ring_answer(state, phases=2, change=5):
     """An answer that gives each signal of a state its ring with greens of 10 seconds."""
     rows = [line.split(",") for line in state.splitlines()]
     now, lines = int(rows[1][2]), {}
@@ -50,9 +50,10 @@ def ring_answer(state):
     for name, line in lines.items():
         line = [row for row in line if row[2] > now or row is line[-1]]
         while line[-1][2] <= now + 30:
-            line.append([1 - line[-1][0], line[-1][2] + 5, line[-1][2] + 15])
+            line.append([(line[-1][0] + 1) % phases, line[-1][2] + change, line[-1][2] + change + 10])
         answer += ["green," + ",".join(map(str, [name, *row])) for row in line]
-    return "\n".join([*answer, "version,first_second,1,,", "row,first_second,40,500,", ""])
+    told = ["version,first_second,1,,", "row,first_second,40,500,"] if "first" in lines else []
+    return "\n".join([*answer, *told, ""])
 
 
 class LayoutTest(unittest.TestCase):

@@ -29,6 +29,8 @@ CONTROLLERS = ("decide", "turns", "actuate", "actuated", "delay_based", "fixed")
 REPORTED = ("turns", "actuate")
 HEADWAY = 2  # seconds between two vehicles of a queue that leaves by one lane
 SAFE = ("collisions", "emergency_stops")
+COLUMNS = "signals by|vehicles|arrived|waiting in s|time loss in s|collisions|emergency stops|seconds that differ".split("|")
+HEADER = f"| {' | '.join(COLUMNS)} |\n{'|---' * len(COLUMNS)}|"
 
 
 def fixed_programs(options, signals, seed):
@@ -86,15 +88,15 @@ def one_run(options, signals, reports, task):
     return outcome(options.folder, name, seed), differing
 
 
-def row_of(name, results):
-    """A controller's line of the table: the means over its seeds with their spread, and the sums of what is unsafe."""
+def row_of(name, results, shows):
+    """A controller's line of the table: the means over its seeds with their spread, the sums of what is unsafe, and what differs."""
     cells = [name, f"{results[0][0].vehicles}"]
     for field in ("arrived", "waiting", "time_loss"):
         values = [getattr(found, field) for found, _ in results]
         spread = statistics.stdev(values) if len(values) > 1 else 0
         cells.append(f"{statistics.mean(values):.1f} ± {spread:.1f}")
     cells += [str(sum(getattr(found, field) for found, _ in results)) for field in SAFE]
-    cells.append(str(sum(differing for _, differing in results)) if name in ("decide", *REPORTED) else "")
+    cells.append(str(sum(differing for _, differing in results)) if shows else "")
     return "| " + " | ".join(cells) + " |"
 
 
@@ -119,13 +121,9 @@ def work() -> None:
     tasks = [(name, seed) for name in options.controllers for seed in seeds]
     with ProcessPoolExecutor(options.jobs) as runs:
         results = dict(zip(tasks, runs.map(partial(one_run, options, signals, reports), tasks)))
-    print(
-        "| signals by | vehicles | arrived | waiting in s | time loss in s | collisions"
-        " | emergency stops | seconds that differ |"
-    )
-    print("|---|---|---|---|---|---|---|---|")
+    print(HEADER)
     for name in options.controllers:
-        print(row_of(name, [results[name, seed] for seed in seeds]))
+        print(row_of(name, [results[name, seed] for seed in seeds], name in ("decide", *REPORTED)))
 
 
 def main() -> None:

@@ -19,7 +19,7 @@ from .groups import MOST_GROUPS, WALK, Group, Node
 from .streets import Edge, Point
 
 STRAIGHT_SAT, TURNING, SPEED = 500, 0.9, 13.89  # thousandths of a vehicle a second by a lane at this speed; a turning lane's part of it
-GIVING_SAT, LEAST_SAT, WALK_SAT = 100, 200, 2000  # by a lane while it gives way; by a link; of people on foot
+GIVING_SAT, LEAST_SAT, WALK_SAT = 100, 200, 2000  # by a lane of vehicles that give way; by a link; of people on foot
 VEHICLE, HEADWAY = 7.5, 1.0  # metres of a standing vehicle with its gap, seconds between two that drive
 GREATEST, LOSS, WAIT = 50, 2, 3600  # seconds, of each phase
 STEP, MOST_ROUNDS, AFTER = 5, 600, 120  # seconds; rounds; rounds after the last vehicle has started
@@ -252,6 +252,15 @@ class Draft:
         self.told["links that share a stop line with those of other signals, and what it lets through by their vehicles"] += 1
         return min(whole, max(LEAST_SAT, whole * link.count // total))
 
+    def giving_sat(self, link: Link, sat: int) -> int:
+        """What a link lets through while it gives way, and else `sat`: those who need not give way wait behind the others."""
+        node, group = self.nodes[link.key[1] or ""], link.group
+        giving = {move for phase in group.shown for move in group.moves if any(node.gives_way_to(phase, move))}
+        exits = {move.exit_lane.rpartition("_")[0] for move in giving}
+        part = sum(count for key, count in link.turns.items() if self.links[key].edge in exits) / max(1, link.turns.total())
+        lane = sat_of(group, self.speeds) / len(group.lanes)
+        return max(1, min(sat, round(sat / (part * lane / GIVING_SAT + 1 - part))))
+
     def rounds(self) -> int:
         """The rounds of a run, from the last arrival."""
         return min(MOST_ROUNDS, max((second for second, _ in self.arrivals), default=0) // STEP + AFTER)
@@ -285,7 +294,7 @@ def link_text(draft: Draft, link: Link, nodes: Mapping[str, str], links: Mapping
     if link.group.cross is not None:
         text += f"walk = {WALK}\ncross = {link.group.cross}\n"
     elif others := draft.yields(link)[:MOST_GROUPS]:
-        text += f"yields = {quoted(links[key] for key in others)}\nyield_sat = {min(sat, GIVING_SAT * len(link.group.lanes))}\n"
+        text += f"yields = {quoted(links[key] for key in others)}\nyield_sat = {draft.giving_sat(link, sat)}\n"
     counts = dict(link.turns.most_common(MOST_TURNS))
     shares = {exit: 1000 * count // sum(counts.values()) for exit, count in counts.items()}
     shares[next(iter(shares))] += 1000 - sum(shares.values())

@@ -216,6 +216,10 @@ class Signals:
         yields = self.layout.links[self._link_of[move.lane]].get("yields", [])
         return self.junctions.gives_way(move, other) or (self._link_of[other.lane] in yields and self.junctions.cross(move, other))
 
+    def tls(self, node):
+        """The name of a node's signal in SUMO."""
+        return node
+
     def free_count(self, link, node, phase):
         """How many of a link's movements are green in a phase and need not give way."""
         moves = [move for move in self.junctions.movements[node] if self._link_of[move.lane] == link]

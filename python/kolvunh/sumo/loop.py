@@ -34,9 +34,16 @@ class Loop:
     """The nodes' timelines and forecasts between the rounds, and the queues that have stood so far."""
 
     def __init__(self, signals, ask):
-        self.ask = ask
+        self.ask, self._step = ask, signals.layout.network["run"]["step"]
         self.lines = {name: [(0, 0, node["phase"][0]["least"])] for name, node in signals.layout.nodes.items()}
         self.told, self.stood = [], Counter()
+
+    def act(self, now, queues, coming):
+        """Decides where a round begins, and answers the timelines."""
+        if now % self._step == 0:
+            self.decide(now, queues, coming)
+        self.see(queues)
+        return self.lines
 
     def see(self, queues):
         """Counts one second more for each queue that stands."""
@@ -126,21 +133,22 @@ class Sensors:
 
 def run_loop(signals, ask, words):
     """Runs SUMO by its words with the program in the loop, and answers the lines of greens of all nodes."""
+    return run_control(signals, Loop(signals, ask), words)
+
+
+def run_control(signals, controller, words, sensors=Sensors):
+    """Runs SUMO by its words under a controller, which acts each second on what the sensors see; answers its lines of greens."""
     import traci
 
     with contextlib.redirect_stdout(sys.stderr):
         traci.start(words, stdout=subprocess.DEVNULL)
     try:
-        loop, sensors = Loop(signals, ask), Sensors(traci, signals)
+        eyes = sensors(traci, signals)
         for now in range(signals.layout.seconds):
-            queues, coming = sensors.look(now)
-            if now % signals.layout.network["run"]["step"] == 0:
-                loop.decide(now, queues, coming)
-            loop.see(queues)
-            for node, line in loop.lines.items():
-                traci.trafficlight.setRedYellowGreenState(node, signals.at(node, line, now))
+            for node, line in controller.act(now, *eyes.look(now)).items():
+                traci.trafficlight.setRedYellowGreenState(signals.tls(node), signals.at(node, line, now))
             traci.simulationStep()
-        return loop.lines
+        return controller.lines
     finally:
         traci.close()
 

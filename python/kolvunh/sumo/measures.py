@@ -2,6 +2,7 @@
 
 import xml.etree.ElementTree as ElementTree
 from typing import NamedTuple
+from xml.sax.saxutils import quoteattr
 
 from .layout import Signals
 
@@ -17,19 +18,20 @@ class Outcome(NamedTuple):
     emergency_stops: int
 
 
-def run_words(folder, name, seed, signals, additional=()):
-    """The words of SUMO for a run, whose outputs are named by the run's name and seed."""
+def run_words(folder, name, seed, signals, additional=(), files=None):
+    """The words of SUMO for a run, whose outputs are named by its name and seed; files are a network and routes, else the folder's."""
     out = folder / f"{name}.{seed}"
+    network, routes = files or (folder / "net.net.xml", folder / f"routes.{seed}.rou.xml")
     events = "".join(
-        f'<timedEvent type="SaveTLSStates" source="{node}" dest="{out.name}.{node}.states.xml"/>\n'
+        f'<timedEvent type="SaveTLSStates" source={quoteattr(signals.tls(node))} dest="{out.name}.{node}.states.xml"/>\n'
         for node in signals.layout.nodes
     )
     (folder / f"{out.name}.add.xml").write_text(f"<additional>\n{events}</additional>\n")
-    files = [*additional, folder / f"{out.name}.add.xml"]
+    more = [*additional, folder / f"{out.name}.add.xml"]
     words = {
-        "--net-file": folder / "net.net.xml",
-        "--route-files": folder / f"routes.{seed}.rou.xml",
-        "--additional-files": ",".join(map(str, files)),
+        "--net-file": network,
+        "--route-files": routes,
+        "--additional-files": ",".join(map(str, more)),
         "--end": signals.layout.seconds,
         "--seed": seed,
         "--time-to-teleport": -1,
