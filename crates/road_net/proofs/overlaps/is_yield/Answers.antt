@@ -11,5 +11,5 @@ pub returns-else-can_yield_to : goal.returns-else-can_yield_to
 returns-else-can_yield_to c =
     let here : c.args.l < length c.args.parts.now.yields.items = omega (arith, c.requires.outline.yield_count, c.requires.link) in
     let same : c.as_slice-others.result.now ≡ yields_at (net_of c.args.parts.now) c.args.l =
-        c.as_slice-others.ensures ∙ c.index.ensures ∙ get_or_default c.args.parts.now.yields.items c.args.l c.index.result.now [] here in
+    c.as_slice-others.ensures ∙ c.index.ensures ∙ get_or_default c.args.parts.now.yields.items c.args.l c.index.result.now [] here in
     (λ yes. absurd (true≢false (sym yes ∙ c.if-can_yield_to.false)), λ is. c.can_yield_to.ensures.1 (subst (All (GivesWay (net_of c.args.parts.now) c.args.l)) (sym same) is.each))
