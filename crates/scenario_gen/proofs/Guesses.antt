@@ -15,7 +15,7 @@ use Rattle.net_parts.specs.declared.drafts.DraftTurn.{DraftTurn}
 use Rattle.net_parts.specs.declared.drafts.DraftConflict.{DraftConflict}
 use Rattle.net_parts.specs.declared.roads.Link.{Link}
 use Rattle.net_parts.specs.declared.roads.Turn.{Turn}
-use Rattle.net_parts.specs.Numbers.{Net, AreDistinct, number_of, number_if, phase_of, plan_of, also_of, phases_of, link_of, turn_of, turns_of, conflict_of, roads_of, node_names, link_names, numbered}
+use Rattle.net_parts.specs.Numbers.{Net, AreDistinct, number_of, number_if, yield_names, yield_sat, phase_of, plan_of, phases_of, also_of, link_of, turn_of, turns_of, yields_of, conflict_of, roads_of, node_names, link_names, numbered}
 use Rattle.net_parts.proofs.DraftParts.{number_of-own}
 
 -- whether the name stands at the place
@@ -82,12 +82,15 @@ if_by find (Some name) = do
 abbrev phases_by : (List ℕ → Option ℕ) → DraftNode → Option (List (List ℕ))
 phases_by find node = each (λ p. each find p.links) node.phases
 
+abbrev also_by : (List ℕ → Option ℕ) → DraftNode → Option (List (List ℕ))
+also_by find node = each (λ p. each find p.also) node.phases
+
 abbrev link_by : (List ℕ → Option ℕ) → (List ℕ → Option ℕ) → List (List (List ℕ)) → DraftLink → Option Link
 link_by find_node find_link phase_links l = do
   from ← if_by find_node l.from
   to ← if_by find_node l.to
   link ← find_link l.name
-  Some (record { from = from; to = to; travel = l.travel; sat = l.sat; weight = l.weight; phase = phase_of phase_links link to })
+  Some (record { from = from; to = to; travel = l.travel; sat = l.sat; weight = l.weight; phase = phase_of phase_links link to; yield_sat = yield_sat l.yields; walk = l.walk })
 
 abbrev turn_by : (List ℕ → Option ℕ) → DraftTurn → Option Turn
 turn_by find t = do
@@ -100,18 +103,20 @@ conflict_by find c = do
   b ← find c.b
   Some (a, b)
 
-abbrev roads_by : (List ℕ → Option ℕ) → (List ℕ → Option ℕ) → List (List (List ℕ)) → List DraftLink → Option (List Link × List (List Turn))
+abbrev roads_by : (List ℕ → Option ℕ) → (List ℕ → Option ℕ) → List (List (List ℕ)) → List DraftLink → Option (List Link × List (List Turn) × List (List ℕ))
 roads_by find_node find_link phase_links ls = do
   roads ← each (link_by find_node find_link phase_links) ls
   turns ← each (λ l. each (turn_by find_link) l.turns) ls
-  Some (roads, turns)
+  yields ← each (λ l. each find_link (yield_names l.yields)) ls
+  Some (roads, turns, yields)
 
 abbrev pub numbered_by : (List ℕ → Option ℕ) → (List ℕ → Option ℕ) → Draft → Option Net
 numbered_by find_node find_link d = do
   phase_links ← each (phases_by find_link) d.nodes
+  also_links ← each (also_by find_link) d.nodes
   roads ← roads_by find_node find_link phase_links d.links
   conflicts ← each (conflict_by find_link) d.conflicts
-  Some (record { run = d.run; node_names = node_names d; plans = map plan_of d.nodes; phase_links = phase_links; also_links = map also_of d.nodes; link_names = link_names d; links = roads.0; turns = roads.1; conflicts = conflicts })
+  Some (record { run = d.run; node_names = node_names d; plans = map plan_of d.nodes; phase_links = phase_links; also_links = also_links; link_names = link_names d; links = roads.0; turns = roads.1; yields = roads.2; conflicts = conflicts })
 
 abbrev Finds : List (List ℕ) → (List ℕ → Option ℕ) → Type 0
 Finds names find = (name : List ℕ) (n : ℕ) → find name ≡ Some n → number_of names name ≡ Some n
@@ -125,6 +130,9 @@ if-by names find finds (Some name) n e =
 module _ (nodes links : List (List ℕ)) (find_node find_link : List ℕ → Option ℕ) (finds_node : Finds nodes find_node) (finds_link : Finds links find_link) where
   phases-by : (node : DraftNode) (ys : List (List ℕ)) → phases_by find_link node ≡ Some ys → phases_of links node ≡ Some ys
   phases-by node ys e = each-through (λ p. each find_link p.links) (λ p. each (number_of links) p.links) (λ p. each-through find_link (number_of links) finds_link p.links) node.phases ys e
+
+  also-by : (node : DraftNode) (ys : List (List ℕ)) → also_by find_link node ≡ Some ys → also_of links node ≡ Some ys
+  also-by node ys e = each-through (λ p. each find_link p.also) (λ p. each (number_of links) p.also) (λ p. each-through find_link (number_of links) finds_link p.also) node.phases ys e
 
   link-by : (phase_links : List (List (List ℕ))) (l : DraftLink) (y : Link) → link_by find_node find_link phase_links l ≡ Some y → link_of nodes links phase_links l ≡ Some y
   unfolding link_of
@@ -147,14 +155,16 @@ module _ (nodes links : List (List ℕ)) (find_node find_link : List ℕ → Opt
       let (b, second, last) = bind-some (find_link c.b) _ y rest in
       rw (finds_link c.a a first, finds_link c.b b second) last
 
-  roads-by : (phase_links : List (List (List ℕ))) (ls : List DraftLink) (y : List Link × List (List Turn)) → roads_by find_node find_link phase_links ls ≡ Some y → roads_of nodes links phase_links ls ≡ Some y
+  roads-by : (phase_links : List (List (List ℕ))) (ls : List DraftLink) (y : List Link × List (List Turn) × List (List ℕ)) → roads_by find_node find_link phase_links ls ≡ Some y → roads_of nodes links phase_links ls ≡ Some y
   unfolding roads_of
   roads-by phase_links ls y e =
       let (rs, all, rest) = bind-some (each (link_by find_node find_link phase_links) ls) _ y e in
-      let (ts, lists, last) = bind-some (each (λ l. each (turn_by find_link) l.turns) ls) _ y rest in
+      let (ts, lists, more) = bind-some (each (λ l. each (turn_by find_link) l.turns) ls) _ y rest in
+      let (ws, ways, last) = bind-some (each (λ l. each find_link (yield_names l.yields)) ls) _ y more in
       rw (
         each-through (link_by find_node find_link phase_links) (link_of nodes links phase_links) (link-by phase_links) ls rs all,
         each-through (λ l. each (turn_by find_link) l.turns) (turns_of links) (λ l. each-through (turn_by find_link) (turn_of links) turn-by l.turns) ls ts lists,
+        each-through (λ l. each find_link (yield_names l.yields)) (yields_of links) (λ l. each-through find_link (number_of links) finds_link (yield_names l.yields)) ls ws ways,
       ) last
 
 -- what is found by numbers of names is the network by numbers
@@ -162,12 +172,14 @@ numbered-by : (d : Draft) (find_node find_link : List ℕ → Option ℕ) → Fi
 unfolding numbered
 numbered-by d find_node find_link finds_node finds_link net e =
     let (phase_links, phases, rest) = bind-some (each (phases_by find_link) d.nodes) _ net e in
-    let (roads, all, more) = bind-some (roads_by find_node find_link phase_links d.links) _ net rest in
+    let (also_links, further, after) = bind-some (each (also_by find_link) d.nodes) _ net rest in
+    let (roads, all, more) = bind-some (roads_by find_node find_link phase_links d.links) _ net after in
     let (conflicts, pairs, last) = bind-some (each (conflict_by find_link) d.conflicts) _ net more in
     let nodes = node_names d in
     let links = link_names d in
     rw (
       each-through (phases_by find_link) (phases_of links) (phases-by nodes links find_node find_link finds_node finds_link) d.nodes phase_links phases,
+      each-through (also_by find_link) (also_of links) (also-by nodes links find_node find_link finds_node finds_link) d.nodes also_links further,
       roads-by nodes links find_node find_link finds_node finds_link phase_links d.links roads all,
       each-through (conflict_by find_link) (conflict_of links) (conflict-by nodes links find_node find_link finds_node finds_link) d.conflicts conflicts pairs,
     ) last

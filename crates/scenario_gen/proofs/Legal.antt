@@ -1,6 +1,6 @@
 -- A test that tells of a draft whether it stands for a network.
 use Rattle.std.proofs.Common.{◌≡◌, ◌≢◌, ℕ, zero, suc, ◌<◌, ◌≤◌, Bool, true, false, not, ◌&&◌, ◌||◌, ◌==◌, List, [], ◌∷◌, length, get_or, Option, Some, None, All, refl, sym, ap, ◌∙◌, subst, inl, inr, arith, rules}
-use Rattle.std.specs.Prelude.{position, slice_index_or, sum_by, count_by, is_some, nat_le, nat_lt}
+use Rattle.std.specs.Prelude.{position, slice_index_or, sum_by, count_by, is_some, is_none, IfSome, nat_le, nat_lt}
 use Rattle.std.specs.List.{list_all, list_any}
 use Rattle.std.proofs.lemmas.Bool.{and_parts, or_cases, or_parts, leb-true, ltb-true, eqb-true, eqb-false, not-true, false≢true, true≢false, cases_lt}
 use Rattle.std.proofs.lemmas.List.Elements.{All-weaker}
@@ -14,12 +14,11 @@ use Rattle.net_parts.specs.declared.drafts.DraftLink.{DraftLink}
 use Rattle.net_parts.specs.declared.drafts.DraftTurn.{DraftTurn}
 use Rattle.net_parts.specs.declared.roads.Link.{Link}
 use Rattle.net_parts.specs.declared.roads.Turn.{Turn}
-use Rattle.net_parts.specs.Bounds.{IsNameByte, IsName, IsRun, IsBoundedPhase, IsBoundedNode, IsBoundedTurn, IsBoundedLink, IsBounded}
-use Rattle.net_parts.specs.Numbers.{Net, AreDistinct, has_link, node_names, link_names}
-use Rattle.net_parts.specs.Outline.{HasNoOverlaps}
-use Rattle.net_parts.proofs.DraftParts.{no-overlaps, numbered-parts}
+use Rattle.net_parts.specs.Bounds.{IsNameByte, IsName, IsRun, IsBoundedPhase, IsBoundedNode, IsBoundedTurn, IsBoundedLink, IsBounded, HasYieldBounds, HasWalkBounds}
+use Rattle.net_parts.specs.Numbers.{Net, AreDistinct, has_link, no_link, node_names, link_names}
+use Rattle.net_parts.specs.Outline.{HasNoOverlaps, yields_at}
 use Rattle.road_net.proofs.GreenLaws.{homes-apart}
-use Rattle.road_net.specs.Joins.{HasEnds, HasFewEntries, IsShareTable, HasShares, HasSharesAt, IsPhased, IsPhasedAt, IsConflict, is_node, link_at, share_of, times_named}
+use Rattle.road_net.specs.Joins.{HasEnds, HasFewEntries, IsShareTable, HasShares, HasSharesAt, IsPhased, IsPhasedAt, IsConflict, IsAlso, IsYield, IsWalk, is_node, link_at, share_of, times_named}
 use Rattle.road_net.specs.Network.{IsJoined, IsNetworkOf, entry_links}
 use Rattle.scenario_gen.proofs.Guesses.{are_own, numbered_guessed, numbered-guessed, own-distinct}
 
@@ -107,13 +106,26 @@ phase-by p e =
       wait = within-by 1 p.wait 3600 loss.1;
     }
 
+abbrev is_nil : List (List ℕ) → Bool
+is_nil [] = true
+is_nil (x ∷ xs) = false
+
+few-by : (xs : List (List ℕ)) → is_nil xs ≡ true → length xs ≤ 16
+few-by [] e = omega arith
+few-by (x ∷ xs) e = absurd (false≢true e)
+
+absent-by : {X : Type 0} (P : X → Type 0) (o : Option X) → is_none o ≡ true → IfSome o P
+absent-by P None e = tt
+absent-by P (Some x) e = absurd (false≢true e)
+
 abbrev is_draft_phase : DraftPhase → Bool
-is_draft_phase p = is_phase p.phase && nat_le (length p.links) 16
+is_draft_phase p = is_phase p.phase && (nat_le (length p.links) 16 && is_nil p.also)
 
 draft-phase-by : (p : DraftPhase) → is_draft_phase p ≡ true → IsBoundedPhase p
 draft-phase-by p e =
-    let h = and_parts (is_phase p.phase) (nat_le (length p.links) 16) e in
-    record { phase = phase-by p.phase h.0; links = leb-true (length p.links) 16 h.1 }
+    let h = and_parts (is_phase p.phase) _ e in
+    let g = and_parts (nat_le (length p.links) 16) (is_nil p.also) h.1 in
+    record { phase = phase-by p.phase h.0; links = leb-true (length p.links) 16 g.0; also = few-by p.also g.1 }
 
 abbrev is_draft_node : DraftNode → Bool
 is_draft_node n = is_name n.name && (within 2 (length n.phases) 4 && (nat_le 2 (count_by (λ (p : DraftPhase). is_unmarked p.phase) n.phases) && list_all is_draft_phase n.phases))
@@ -130,7 +142,7 @@ draft-node-by n e =
     }
 
 abbrev is_draft_link : DraftLink → Bool
-is_draft_link l = is_name l.name && (within 1 l.travel 120 && (within 1 l.sat 5000 && (within 1 l.weight 20 && (nat_le (length l.turns) 16 && list_all (λ (t : DraftTurn). nat_le t.share 1000) l.turns))))
+is_draft_link l = is_name l.name && (within 1 l.travel 120 && (within 1 l.sat 5000 && (within 1 l.weight 20 && ((nat_le (length l.turns) 16 && (is_none l.yields && is_none l.walk)) && list_all (λ (t : DraftTurn). nat_le t.share 1000) l.turns))))
 
 draft-link-by : (l : DraftLink) → is_draft_link l ≡ true → IsBoundedLink l
 draft-link-by l e =
@@ -138,10 +150,12 @@ draft-link-by l e =
     let travel = and_parts (within 1 l.travel 120) _ name.1 in
     let sat = and_parts (within 1 l.sat 5000) _ travel.1 in
     let weight = and_parts (within 1 l.weight 20) _ sat.1 in
-    let count = and_parts (nat_le (length l.turns) 16) _ weight.1 in
+    let own = and_parts (nat_le (length l.turns) 16 && (is_none l.yields && is_none l.walk)) _ weight.1 in
+    let count = and_parts (nat_le (length l.turns) 16) _ own.0 in
+    let plain = and_parts (is_none l.yields) (is_none l.walk) count.1 in
     record {
-      own = record { name = name-by l.name name.0; travel = within-by 1 l.travel 120 travel.0; sat = within-by 1 l.sat 5000 sat.0; weight = within-by 1 l.weight 20 weight.0; count = leb-true (length l.turns) 16 count.0 };
-      turns = all-by (λ (t : DraftTurn). nat_le t.share 1000) IsBoundedTurn (λ t h. leb-true t.share 1000 h) l.turns count.1;
+      own = record { name = name-by l.name name.0; travel = within-by 1 l.travel 120 travel.0; sat = within-by 1 l.sat 5000 sat.0; weight = within-by 1 l.weight 20 weight.0; count = leb-true (length l.turns) 16 count.0; yields = absent-by (HasYieldBounds l.sat) l.yields plain.0; walk = absent-by HasWalkBounds l.walk plain.1 };
+      turns = all-by (λ (t : DraftTurn). nat_le t.share 1000) IsBoundedTurn (λ t h. leb-true t.share 1000 h) l.turns own.1;
     }
 
 abbrev is_bounded : Draft → Bool
@@ -240,6 +254,42 @@ conflict-by net none c e =
       apart = homes-apart net none c.0 c.1 (eqb-false (link_at links c.0).phase (link_at links c.1).phase (not-true ((link_at links c.0).phase == (link_at links c.1).phase) node.1));
     }
 
+-- a network without further greens, yields and walks
+
+abbrev is_void : List ℕ → Bool
+is_void [] = true
+is_void (x ∷ xs) = false
+
+void-by : (xs : List ℕ) → is_void xs ≡ true → xs ≡ []
+void-by [] e = refl
+void-by (x ∷ xs) e = absurd (false≢true e)
+
+void-at : (lists : List (List ℕ)) → list_all is_void lists ≡ true → (k : ℕ) → get_or lists k [] ≡ []
+void-at [] e k = refl
+void-at (x ∷ xs) e zero = void-by x (and_parts (is_void x) (list_all is_void xs) e).0
+void-at (x ∷ xs) e (suc k) = void-at xs (and_parts (is_void x) (list_all is_void xs) e).1 k
+
+voids-at : (lists : List (List (List ℕ))) → list_all (list_all is_void) lists ≡ true → (n k : ℕ) → get_or (get_or lists n []) k [] ≡ []
+voids-at [] e n k = refl
+voids-at (x ∷ xs) e zero k = void-at x (and_parts (list_all is_void x) (list_all (list_all is_void) xs) e).0 k
+voids-at (x ∷ xs) e (suc n) k = voids-at xs (and_parts (list_all is_void x) (list_all (list_all is_void) xs) e).1 n k
+
+abbrev is_plain : Net → Bool
+is_plain net = list_all (list_all is_void) net.also_links && (list_all is_void net.yields && list_all (λ (l : Link). is_none l.walk) net.links)
+
+also-plain : (net : Net) → HasNoOverlaps net → (l : ℕ) → IsAlso net l
+also-plain net none l n k has = absurd (false≢true (sym (ap (has_link l) (none n k)) ∙ has))
+
+yield-plain : (net : Net) (l : ℕ) → yields_at net l ≡ [] → IsYield net l
+yield-plain net l is = record { each = rw is (λ k d h. absurd (omega arith)); differ = rw is (λ i j d less h. absurd (omega arith)) }
+
+absent : {X : Type 0} (o : Option X) → is_none o ≡ true → o ≡ None
+absent None e = refl
+absent (Some x) e = absurd (false≢true e)
+
+walk-plain : (net : Net) (l : ℕ) → (link_at net.links l).walk ≡ None → IsWalk net l
+walk-plain net l is = rw is tt
+
 abbrev has_few_entries : Net → ℕ → Bool
 has_few_entries net node = nat_le (length (entry_links net node)) 16
 
@@ -255,20 +305,28 @@ is_joined net =
     && (all_below (has_few_entries net) (length net.node_names)
     && (all_below (has_shares_at net.links net.turns) (length net.links)
     && (all_below (is_phased_at net.links net.phase_links) (length net.links)
-    && list_all (is_conflict net.links) net.conflicts)))
+    && (list_all (is_conflict net.links) net.conflicts && is_plain net))))
 
-joined-by : (net : Net) → HasNoOverlaps net → is_joined net ≡ true → IsJoined net
-joined-by net none e =
+joined-by : (net : Net) → is_joined net ≡ true → IsJoined net
+joined-by net e =
     let ends = and_parts (list_all (λ (l : Link). not (same_end l.from l.to)) net.links) _ e in
     let entries = and_parts (all_below (has_few_entries net) (length net.node_names)) _ ends.1 in
     let shares = and_parts (all_below (has_shares_at net.links net.turns) (length net.links)) _ entries.1 in
-    let phases = and_parts (all_below (is_phased_at net.links net.phase_links) (length net.links)) (list_all (is_conflict net.links) net.conflicts) shares.1 in
+    let phases = and_parts (all_below (is_phased_at net.links net.phase_links) (length net.links)) _ shares.1 in
+    let conflicts = and_parts (list_all (is_conflict net.links) net.conflicts) (is_plain net) phases.1 in
+    let plain = and_parts (list_all (list_all is_void) net.also_links) _ conflicts.1 in
+    let ways = and_parts (list_all is_void net.yields) (list_all (λ (l : Link). is_none l.walk) net.links) plain.1 in
+    let none : HasNoOverlaps net = voids-at net.also_links plain.0 in
+    let walks = all-by (λ (l : Link). is_none l.walk) (λ l. l.walk ≡ None) (λ l h. absent l.walk h) net.links ways.1 in
     record {
       ends = all-by (λ (l : Link). not (same_end l.from l.to)) HasEnds ends-by net.links ends.0;
       entries = below-by (has_few_entries net) (HasFewEntries net.links) (λ n h. leb-true (length (entry_links net n)) 16 h) (length net.node_names) entries.0;
       shares = below-by (has_shares_at net.links net.turns) (HasSharesAt net.links net.turns) (λ l h. shares-by net.links (slice_index_or net.turns l []) (link_at net.links l).to h) (length net.links) shares.0;
       phases = below-by (is_phased_at net.links net.phase_links) (IsPhasedAt net.links net.phase_links) (λ l h. phased-by net.phase_links l (link_at net.links l).to h) (length net.links) phases.0;
-      conflicts = all-by (is_conflict net.links) (IsConflict net) (conflict-by net none) net.conflicts phases.1;
+      also = λ l h. also-plain net none l;
+      conflicts = all-by (is_conflict net.links) (IsConflict net) (conflict-by net none) net.conflicts conflicts.0;
+      yields = λ l h. yield-plain net l (void-at net.yields ways.0 l);
+      walks = λ l h. walk-plain net l (walks l no_link h);
     }
 
 abbrev is_joined_if : Option Net → Bool
@@ -297,4 +355,4 @@ legal-by node link d run e =
     there (Some net) is joined bounds nodes links =
         let p = and_parts (is_joined net) (nat_le (length net.link_names) 320) joined in
         let numbers = numbered-guessed d node link nodes links net is in
-        record { net = net; network = record { bounds = bounds; node_names = nodes; link_names = links; numbers = numbers; joins = joined-by net (no-overlaps d net (numbered-parts d net numbers)) p.0 }; few = leb-true (length net.link_names) 320 p.1 }
+        record { net = net; network = record { bounds = bounds; node_names = nodes; link_names = links; numbers = numbers; joins = joined-by net p.0 }; few = leb-true (length net.link_names) 320 p.1 }
