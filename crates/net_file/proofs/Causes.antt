@@ -5,7 +5,7 @@ use Rattle.net_tables.specs.Faults.{Unless}
 use Rattle.net_tables.specs.Table.{draft_of, HasKnownVersion}
 use Rattle.net_parts.specs.declared.drafts.Draft.{Draft}
 use Rattle.net_parts.specs.declared.faults.NetFault.{NetFault}
-use Rattle.net_parts.specs.declared.faults.NetFault.TheVariants.{NoMemory, NotToml, Shape, Bound, Twice, Unknown, Ends, Crowd, Shares, Phaseless, Clash}
+use Rattle.net_parts.specs.declared.faults.NetFault.TheVariants.{NoMemory, NotToml, Shape, Bound, Twice, Unknown, Ends, Crowd, Shares, Phaseless, Also, Clash, Yields, Walk}
 use Rattle.net_parts.specs.Numbers.{Net}
 use Rattle.net_parts.specs.FirstFaults.{Refuses}
 use Rattle.road_net.specs.FirstFaults.{IsDraftFault}
@@ -58,4 +58,7 @@ module _ (bytes : List ℕ) where
   IsCause-none (Crowd n) h = none-drafted (Crowd n) h
   IsCause-none (Shares l) h = none-drafted (Shares l) h
   IsCause-none (Phaseless l) h = none-drafted (Phaseless l) h
+  IsCause-none (Also l) h = none-drafted (Also l) h
   IsCause-none (Clash a b) h = none-drafted (Clash a b) h
+  IsCause-none (Yields l) h = none-drafted (Yields l) h
+  IsCause-none (Walk l) h = none-drafted (Walk l) h

@@ -1,5 +1,5 @@
 -- With numbers for its names, the draft of a network is that network.
-use Rattle.std.proofs.Common.{◌≡◌, ℕ, ◌<◌, List, [], length, get_or, map, All, Option, Some, None, IfSome, option_map, zero-add, refl, sym, subst, arith}
+use Rattle.std.proofs.Common.{◌≡◌, ℕ, ◌<◌, ◌≤◌, List, [], ◌∷◌, length, get_or, map, All, Option, Some, None, IfSome, option_map, zero-add, refl, sym, ap, ◌∙◌, subst, arith}
 use Rattle.std.proofs.lemmas.List.{length-map}
 use Rattle.std.proofs.lemmas.List.FromFn.{length-map-range_with_len}
 use Rattle.std.proofs.lemmas.List.Elements.{All-map}
@@ -10,12 +10,12 @@ use Rattle.net_parts.specs.declared.drafts.DraftNode.{DraftNode}
 use Rattle.net_parts.specs.declared.drafts.DraftPhase.{DraftPhase}
 use Rattle.net_parts.specs.declared.drafts.DraftLink.{DraftLink}
 use Rattle.net_parts.specs.declared.roads.Turn.{Turn}
-use Rattle.net_parts.specs.Bounds.{IsBounded, IsBoundedNode, IsBoundedPhase, IsBoundedLink, IsBoundedTurn}
-use Rattle.net_parts.specs.Numbers.{Net, AreDistinct, no_link, number_of, number_if, plan_of, also_of, phases_of, link_of, turn_of, turns_of, conflict_of, roads_of, node_names, link_names, numbered}
-use Rattle.net_parts.specs.Outline.{IsOutline, IsLink, AreTurns, ArePhaseLinks, HasNoOverlaps, also_at, link_at, turns_at, plan_at, phases_at}
+use Rattle.net_parts.specs.Bounds.{IsBounded, IsBoundedNode, IsBoundedPhase, IsBoundedLink, IsBoundedTurn, HasYieldBounds}
+use Rattle.net_parts.specs.Numbers.{Net, AreDistinct, no_link, number_of, number_if, yield_names, yield_sat, plan_of, phases_of, also_of, link_of, turn_of, turns_of, yields_of, conflict_of, roads_of, node_names, link_names, numbered}
+use Rattle.net_parts.specs.Outline.{IsOutline, IsLink, AreTurns, ArePhaseLinks, IsYieldSat, also_at, link_at, turns_at, yields_at, plan_at, phases_at}
 use Rattle.net_parts.specs.Parts.{IsNetOf}
 use Rattle.net_parts.proofs.DraftParts.{IsNumbered, number_of-own}
-use Rattle.net_file.specs.ByNames.{name_in, AreNumbers, phase_by_names, node_by_names, turn_by_names, link_by_names, conflict_by_names, draft_by_names}
+use Rattle.net_file.specs.ByNames.{name_in, AreNumbers, yield_by_names, phase_by_names, node_by_names, turn_by_names, link_by_names, conflict_by_names, draft_by_names}
 use Rattle.net_file.proofs.ReadingLaws.{each-range, each-own, map-range, All-range, count_by-map}
 
 module _ (names : List (List ℕ)) (differ : AreDistinct names) where
@@ -39,32 +39,53 @@ module _ (names : List (List ℕ)) (differ : AreDistinct names) where
 numbered-from : (d : Draft) (net : Net) → IsNumbered d net → numbered d ≡ Some net
 unfolding numbered roads_of
 numbered-from d net is =
-    rw (is.phase_links, is.links, is.turns, is.conflicts)
-    (λ i. Some (record { run = sym is.run i; node_names = sym is.nodes i; plans = sym is.plans i; phase_links = net.phase_links; also_links = sym is.also_links i; link_names = sym is.names i; links = net.links; turns = net.turns; conflicts = net.conflicts }))
+    rw (is.phase_links, is.also_links, is.links, is.turns, is.yields, is.conflicts)
+    (λ i. Some (record { run = sym is.run i; node_names = sym is.nodes i; plans = sym is.plans i; phase_links = net.phase_links; also_links = net.also_links; link_names = sym is.names i; links = net.links; turns = net.turns; yields = net.yields; conflicts = net.conflicts }))
 
-module _ (net : Net) (ok : IsOutline net) (none : HasNoOverlaps net) where
+-- a yield by names, and its bounds
+yields-named : (names : List (List ℕ)) (ns : List ℕ) (sat : ℕ) → yield_names (yield_by_names names ns sat) ≡ map (name_in names) ns
+yields-named names [] sat = refl
+yields-named names (n ∷ ns) sat = refl
+
+given-own : (names : List (List ℕ)) (ns : List ℕ) (sat : ℕ) → IsYieldSat ns sat → yield_sat (yield_by_names names ns sat) ≡ sat
+given-own names [] sat is = sym is
+given-own names (n ∷ ns) sat is = refl
+
+given-bounded : (names : List (List ℕ)) (ns : List ℕ) (sat most : ℕ) → IsYieldSat ns sat → sat ≤ most → length ns ≤ 16 → IfSome (yield_by_names names ns sat) (HasYieldBounds most)
+given-bounded names [] sat most is few short = tt
+given-bounded names (n ∷ ns) sat most is few short = record { count = (omega arith, omega (arith, length-map ns (name_in names), short)); sat = (is, few) }
+
+module _ (net : Net) (ok : IsOutline net) where
   -- the links of the phases of a node
   lists-numbers : (n : ℕ) → n < length net.node_names → All (ArePhaseLinks (length net.link_names)) (phases_at net n)
   lists-numbers n h = let inside : n < length net.phase_links = omega (arith, ok.phases_count) in ok.phase_links n [] inside
 
-  phase-own : (n k : ℕ) → n < length net.node_names → k < length (plan_at net n) → each (number_of net.link_names) (phase_by_names net.link_names (plan_at net n) (phases_at net n) k).links ≡ Some (get_or (phases_at net n) k [])
+  also-numbers : (n : ℕ) → n < length net.node_names → All (ArePhaseLinks (length net.link_names)) (also_at net n)
+  also-numbers n h = let inside : n < length net.also_links = omega (arith, ok.also_count) in ok.also_links n [] inside
+
+  phase-own : (n k : ℕ) → n < length net.node_names → k < length (plan_at net n) → each (number_of net.link_names) (phase_by_names net.link_names (plan_at net n) (phases_at net n) (also_at net n) k).links ≡ Some (get_or (phases_at net n) k [])
   phase-own n k h below =
       let inside : k < length (phases_at net n) = omega (arith, ok.phase_counts n h) in
       numbers-own net.link_names ok.links_differ (get_or (phases_at net n) k []) (lists-numbers n h k [] inside).exist
 
+  further-own : (n k : ℕ) → n < length net.node_names → k < length (plan_at net n) → each (number_of net.link_names) (phase_by_names net.link_names (plan_at net n) (phases_at net n) (also_at net n) k).also ≡ Some (get_or (also_at net n) k [])
+  further-own n k h below =
+      let inside : k < length (also_at net n) = omega (arith, ok.also_counts n h) in
+      numbers-own net.link_names ok.links_differ (get_or (also_at net n) k []) (also-numbers n h k [] inside).exist
+
   phases-own : (n : ℕ) → n < length net.node_names → phases_of net.link_names (node_by_names net n) ≡ Some (phases_at net n)
   unfolding node_by_names
-  phases-own n h = each-range (λ (p : DraftPhase). each (number_of net.link_names) p.links) (phase_by_names net.link_names (plan_at net n) (phases_at net n)) 0 (length (plan_at net n)) (phases_at net n) [] (ok.phase_counts n h) (λ k below. rw zero-add (phase-own n k h below))
+  phases-own n h = each-range (λ (p : DraftPhase). each (number_of net.link_names) p.links) (phase_by_names net.link_names (plan_at net n) (phases_at net n) (also_at net n)) 0 (length (plan_at net n)) (phases_at net n) [] (ok.phase_counts n h) (λ k below. rw zero-add (phase-own n k h below))
 
   -- the times of its phases
   plan-own : (n : ℕ) → plan_of (node_by_names net n) ≡ plan_at net n
   unfolding node_by_names
-  plan-own n = map-range (λ (p : DraftPhase). p.phase) (phase_by_names net.link_names (plan_at net n) (phases_at net n)) (length (plan_at net n)) (plan_at net n) no_phase refl (λ k below. refl)
+  plan-own n = map-range (λ (p : DraftPhase). p.phase) (phase_by_names net.link_names (plan_at net n) (phases_at net n) (also_at net n)) (length (plan_at net n)) (plan_at net n) no_phase refl (λ k below. refl)
 
   -- the further links of its phases
-  also-own : (n : ℕ) → n < length net.node_names → also_of (node_by_names net n) ≡ also_at net n
+  also-own : (n : ℕ) → n < length net.node_names → also_of net.link_names (node_by_names net n) ≡ Some (also_at net n)
   unfolding node_by_names
-  also-own n h = map-range (λ (p : DraftPhase). []) (phase_by_names net.link_names (plan_at net n) (phases_at net n)) (length (plan_at net n)) (also_at net n) [] (ok.also_counts n h) (λ k below. sym (none n k))
+  also-own n h = each-range (λ (p : DraftPhase). each (number_of net.link_names) p.also) (phase_by_names net.link_names (plan_at net n) (phases_at net n) (also_at net n)) 0 (length (plan_at net n)) (also_at net n) [] (ok.also_counts n h) (λ k below. rw zero-add (further-own n k h below))
 
   node-name : (n : ℕ) → (node_by_names net n).name ≡ name_in net.node_names n
   unfolding node_by_names
@@ -84,7 +105,7 @@ module _ (net : Net) (ok : IsOutline net) (none : HasNoOverlaps net) where
       let inside : l < length net.links = omega (arith, ok.road_count) in
       let its = link_at net l in
       rw (number_if-own net.node_names ok.nodes_differ its.from (road l h).from, number_if-own net.node_names ok.nodes_differ its.to (road l h).to, number_of-own net.link_names ok.links_differ l h)
-      (λ i. Some (record { from = its.from; to = its.to; travel = its.travel; sat = its.sat; weight = its.weight; phase = sym (ok.phases l inside) i }))
+      (λ i. Some (record { from = its.from; to = its.to; travel = its.travel; sat = its.sat; weight = its.weight; phase = sym (ok.phases l inside) i; yield_sat = given-own net.link_names (yields_at net l) its.yield_sat (ok.yield_sats l h) i; walk = its.walk }))
 
   turning : (l : ℕ) → l < length net.link_names → AreTurns (length net.link_names) (turns_at net l)
   turning l h = let inside : l < length net.turns = omega (arith, ok.turn_count) in ok.turns l [] inside
@@ -92,6 +113,13 @@ module _ (net : Net) (ok : IsOutline net) (none : HasNoOverlaps net) where
   turns-own : (l : ℕ) → l < length net.link_names → turns_of net.link_names (link_by_names net l) ≡ Some (turns_at net l)
   unfolding link_by_names
   turns-own l h = each-own (λ t. t.exit < length net.link_names) (turn_of net.link_names) (turn_by_names net.link_names) (turn-own net.link_names ok.links_differ) (turns_at net l) (turning l h).exits
+
+  giving : (l : ℕ) → l < length net.link_names → ArePhaseLinks (length net.link_names) (yields_at net l)
+  giving l h = let inside : l < length net.yields = omega (arith, ok.yield_count) in ok.yields l [] inside
+
+  yields-own : (l : ℕ) → l < length net.link_names → yields_of net.link_names (link_by_names net l) ≡ Some (yields_at net l)
+  unfolding link_by_names
+  yields-own l h = ap (each (number_of net.link_names)) (yields-named net.link_names (yields_at net l) (link_at net l).yield_sat) ∙ numbers-own net.link_names ok.links_differ (yields_at net l) (giving l h).exist
 
   -- the names of the draft
   node_names-own : node_names (draft_by_names net) ≡ net.node_names
@@ -111,9 +139,9 @@ module _ (net : Net) (ok : IsOutline net) (none : HasNoOverlaps net) where
   unfolding draft_by_names
   plans-own = map-range plan_of (node_by_names net) (length net.node_names) net.plans [] ok.plan_count (λ k h. plan-own k)
 
-  all_also-own : map also_of (draft_by_names net).nodes ≡ net.also_links
+  all_also-own : each (also_of net.link_names) (draft_by_names net).nodes ≡ Some net.also_links
   unfolding draft_by_names
-  all_also-own = map-range also_of (node_by_names net) (length net.node_names) net.also_links [] ok.also_count (λ k h. also-own k h)
+  all_also-own = each-range (also_of net.link_names) (node_by_names net) 0 (length net.node_names) net.also_links [] ok.also_count (λ k h. rw zero-add (also-own k h))
 
   links-own : each (link_of net.node_names net.link_names net.phase_links) (draft_by_names net).links ≡ Some net.links
   unfolding draft_by_names
@@ -122,6 +150,10 @@ module _ (net : Net) (ok : IsOutline net) (none : HasNoOverlaps net) where
   all_turns-own : each (turns_of net.link_names) (draft_by_names net).links ≡ Some net.turns
   unfolding draft_by_names
   all_turns-own = each-range (turns_of net.link_names) (link_by_names net) 0 (length net.link_names) net.turns [] ok.turn_count (λ k h. rw zero-add (turns-own k h))
+
+  all_yields-own : each (yields_of net.link_names) (draft_by_names net).links ≡ Some net.yields
+  unfolding draft_by_names
+  all_yields-own = each-range (yields_of net.link_names) (link_by_names net) 0 (length net.link_names) net.yields [] ok.yield_count (λ k h. rw zero-add (yields-own k h))
 
   conflicts-own : each (conflict_of net.link_names) (draft_by_names net).conflicts ≡ Some net.conflicts
   unfolding draft_by_names
@@ -140,11 +172,12 @@ module _ (net : Net) (ok : IsOutline net) (none : HasNoOverlaps net) where
         run = sym run-own;
         nodes = nodes;
         plans = sym plans-own;
-        also_links = sym all_also-own;
         phase_links = subst (λ (names : List (List ℕ)). each (phases_of names) d.nodes ≡ Some net.phase_links) links lists-own;
+        also_links = subst (λ (names : List (List ℕ)). each (also_of names) d.nodes ≡ Some net.also_links) links all_also-own;
         names = links;
         links = subst (λ (names : List (List ℕ)). each (link_of names (link_names d) net.phase_links) d.links ≡ Some net.links) nodes (subst (λ (names : List (List ℕ)). each (link_of net.node_names names net.phase_links) d.links ≡ Some net.links) links links-own);
         turns = subst (λ (names : List (List ℕ)). each (turns_of names) d.links ≡ Some net.turns) links all_turns-own;
+        yields = subst (λ (names : List (List ℕ)). each (yields_of names) d.links ≡ Some net.yields) links all_yields-own;
         conflicts = subst (λ (names : List (List ℕ)). each (conflict_of names) d.conflicts ≡ Some net.conflicts) links conflicts-own;
       }
 
@@ -152,21 +185,22 @@ module _ (net : Net) (ok : IsOutline net) (none : HasNoOverlaps net) where
   plan-ok : (n : ℕ) → n < length net.node_names → IsPlan (plan_at net n)
   plan-ok n h = let inside : n < length net.plans = omega (arith, ok.plan_count) in ok.plans n [] inside
 
-  phase-bounded : (n k : ℕ) → n < length net.node_names → k < length (plan_at net n) → IsBoundedPhase (phase_by_names net.link_names (plan_at net n) (phases_at net n) k)
+  phase-bounded : (n k : ℕ) → n < length net.node_names → k < length (plan_at net n) → IsBoundedPhase (phase_by_names net.link_names (plan_at net n) (phases_at net n) (also_at net n) k)
   phase-bounded n k h below =
       let inside : k < length (phases_at net n) = omega (arith, ok.phase_counts n h) in
       record {
         phase = (plan-ok n h).phases k no_phase below;
         links = rw length-map (lists-numbers n h k [] inside).count;
+        also = let named : k < length (also_at net n) = omega (arith, ok.also_counts n h) in rw length-map (also-numbers n h k [] named).count;
       }
 
   phases-count : (n : ℕ) → length (node_by_names net n).phases ≡ length (plan_at net n)
   unfolding node_by_names
-  phases-count n = length-map-range_with_len (phase_by_names net.link_names (plan_at net n) (phases_at net n)) 0 (length (plan_at net n))
+  phases-count n = length-map-range_with_len (phase_by_names net.link_names (plan_at net n) (phases_at net n) (also_at net n)) 0 (length (plan_at net n))
 
   phases-bounded : (n : ℕ) → n < length net.node_names → All IsBoundedPhase (node_by_names net n).phases
   unfolding node_by_names
-  phases-bounded n h = All-range IsBoundedPhase (phase_by_names net.link_names (plan_at net n) (phases_at net n)) (length (plan_at net n)) (λ k below. phase-bounded n k h below)
+  phases-bounded n h = All-range IsBoundedPhase (phase_by_names net.link_names (plan_at net n) (phases_at net n) (also_at net n)) (length (plan_at net n)) (λ k below. phase-bounded n k h below)
 
   node-bounded : (n : ℕ) → n < length net.node_names → IsBoundedNode (node_by_names net n)
   node-bounded n h =
@@ -183,7 +217,7 @@ module _ (net : Net) (ok : IsOutline net) (none : HasNoOverlaps net) where
   link-bounded : (l : ℕ) → l < length net.link_names → IsBoundedLink (link_by_names net l)
   unfolding link_by_names
   link-bounded l h = record {
-    own = record { name = ok.link_names l [] h; travel = (road l h).travel; sat = (road l h).sat; weight = (road l h).weight; count = rw length-map (turning l h).count };
+    own = record { name = ok.link_names l [] h; travel = (road l h).travel; sat = (road l h).sat; weight = (road l h).weight; count = rw length-map (turning l h).count; yields = given-bounded net.link_names (yields_at net l) (link_at net l).yield_sat (link_at net l).sat (ok.yield_sats l h) (road l h).yield_sat (giving l h).count; walk = (road l h).walk };
     turns = All-map IsBoundedTurn (turn_by_names net.link_names) (turns_at net l) (turning l h).shares;
   }
 

@@ -3,7 +3,7 @@ use Rattle.std.proofs.Common.{◌≡◌, ℕ, ◌<◌, ◌≤◌, ◌^◌, Bool,
 use Rattle.toml.specs.Data.{Data, Members, no_members, member, integer, table, depth, members_depth, get_member}
 use Rattle.net_parts.specs.declared.drafts.Run.{Run}
 use Rattle.net_tables.specs.Table.{field_of, has_only, only, number_at, number_if, flag_at, flag_if, optional_number_at, run_keys, run_of}
-use Rattle.net_file.specs.Written.{IsDataOf, IsFilledWith, HasNumber, HasNumberIf, HasFlagIfTrue, flag_data, run_in}
+use Rattle.net_file.specs.Written.{IsDataOf, IsFilledWith, HasNumber, HasNumberIf, HasFlagIfTrue, flag_data, Always, run_in}
 use Rattle.net_file.proofs.PhaseLaws.{field-fits}
 use Rattle.net_file.proofs.PutLaws.{get-all, has-all, depth-all, or-none, with_all}
 
@@ -72,10 +72,10 @@ module _ (step look gap rounds : ℕ) (split : Bool) (age hold recall act_step r
       rw (own, at_step, at_look, at_gap, at_rounds, at_split, read-flag split, at_age, read-number age, at_hold, read-number hold, at_recall, read-number recall, at_act_step, read-number act_step, at_rate, read-number rate) refl
 
   -- how they are read, whichever are absent
-  run-read : IsDataOf run_in 1 (table run_members) run_read
+  run-read : IsDataOf run_in Always 1 (table run_members) run_read
   unfolding run_keys
   run-read = record {
-    read =
+    read = λ version says.
         run-of run_members (has-all run_keys run_options run_numbers refl refl)
         (get-all (codes "step") run_options run_numbers) (get-all (codes "look") run_options run_numbers)
         (get-all (codes "gap") run_options run_numbers) (get-all (codes "rounds") run_options run_numbers) (get-all (codes "split") run_options run_numbers ∙ or-none (flag_data split))
@@ -94,12 +94,12 @@ optional-fits (Some n) h = ap Some (field-fits n h)
 
 pub run-filled : (run : Run) {m0 m1 m2 m3 m4 m5 m6 m7 m8 m9 m10 : Members} → HasNumber (codes "step") run.step m0 m1 → HasNumber (codes "look") run.look m1 m2 → HasNumber (codes "gap") run.gap m2 m3 → HasNumber (codes "rounds") run.rounds m3 m4
     → HasFlagIfTrue (codes "split") run.split m4 m5 → HasNumberIf (codes "age") run.age m5 m6 → HasNumberIf (codes "hold") run.hold m6 m7 → HasNumberIf (codes "recall") run.recall m7 m8
-    → HasNumberIf (codes "act_step") run.act_step m8 m9 → HasNumberIf (codes "rate") run.rate m9 m10 → IsFilledWith run_in 1 run m0 m10
+    → HasNumberIf (codes "act_step") run.act_step m8 m9 → HasNumberIf (codes "rate") run.rate m9 m10 → IsFilledWith run_in Always 1 run m0 m10
 run-filled run {m10 = m10} step look gap rounds split age hold recall act_step rate empty =
     let is : m10 ≡ run_members run.step run.look run.gap run.rounds run.split run.age run.hold run.recall run.act_step run.rate = rw (rate.is, act_step.is, recall.is, hold.is, age.is, split, rounds.is, gap.is, look.is, step.is, empty) refl in
     let own = run-read run.step run.look run.gap run.rounds run.split run.age run.hold run.recall run.act_step run.rate in
-    subst (λ ms. IsDataOf run_in 1 (table ms) run) (sym is) (record {
-      read = rw own.read (λ i. Some (record {
+    subst (λ ms. IsDataOf run_in Always 1 (table ms) run) (sym is) (record {
+      read = λ version says. rw (own.read version says) (λ i. Some (record {
         step = field-fits run.step step.fits i;
         look = field-fits run.look look.fits i;
         gap = field-fits run.gap gap.fits i;

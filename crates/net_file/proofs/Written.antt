@@ -1,34 +1,70 @@
 -- The text of a network's draft by names is a text of that network.
-use Rattle.std.proofs.Common.{◌≡◌, ℕ, List}
+use Rattle.std.proofs.Common.{◌≡◌, ℕ, ◌<◌, ◌≤◌, List, [], length, refl, inl, inr, arith}
 use Rattle.net_parts.specs.declared.drafts.Draft.{Draft}
-use Rattle.net_parts.specs.Numbers.{Net}
-use Rattle.net_parts.specs.Outline.{HasNoOverlaps}
-use Rattle.net_parts.proofs.DraftParts.{no-overlaps, numbered-parts}
+use Rattle.net_parts.specs.Numbers.{Net, no_link}
+use Rattle.net_parts.specs.Outline.{IsOutline, also_at, phases_at, plan_at}
 use Rattle.net_file.specs.NetworkText.{IsNetworkText}
-use Rattle.net_file.specs.ByNames.{draft_by_names}
+use Rattle.net_file.specs.ByNames.{phase_by_names, node_by_names, link_by_names, draft_by_names}
 use Rattle.net_file.proofs.NamedLaws.{named}
-use Rattle.net_file.specs.Written.{IsTextOfDraft}
+use Rattle.net_file.proofs.ReadingLaws.{All-range}
+use Rattle.net_file.specs.Written.{IsTextOfDraft, Says, SaysPhase, SaysNode, SaysLink}
 use Rattle.road_net.specs.Network.{IsNetwork, IsNetworkOf}
-use Rattle.net_file.specs.Upgrade.{IsUpgraded}
-
--- no text names a further link of a phase
-pub text-alone : (bytes : List ℕ) (net : Net) → IsNetworkText bytes net → HasNoOverlaps net
-text-alone bytes net is = no-overlaps is.draft net (numbered-parts is.draft net is.network.numbers)
+use Rattle.net_file.specs.Upgrade.{IsPlain, IsVersionOf, IsUpgraded}
 
 -- the network is the one of its draft by names
-pub own-draft : (net : Net) → IsNetwork net → HasNoOverlaps net → IsNetworkOf (draft_by_names net) net
-own-draft net is none =
-    let (bounds, names) = named net is.outline none in
+pub own-draft : (net : Net) → IsNetwork net → IsNetworkOf (draft_by_names net) net
+own-draft net is =
+    let (bounds, names) = named net is.outline in
     record { bounds = bounds; node_names = names.node_names; link_names = names.link_names; numbers = names.numbers; joins = is.joins }
 
-pub upgraded : (bytes : List ℕ) (draft : Draft) (net : Net) → IsNetwork net → HasNoOverlaps net → draft ≡ draft_by_names net → IsTextOfDraft bytes draft → IsUpgraded bytes net
-upgraded bytes draft net is none same text = record {
+module _ (net : Net) (ok : IsOutline net) (plain : IsPlain net) where
+  -- version 2 can say it, where the network is plain
+  node-second : (n : ℕ) → n < length net.node_names → SaysNode 2 (node_by_names net n)
+  unfolding node_by_names
+  node-second n h = All-range (SaysPhase 2) (phase_by_names net.link_names (plan_at net n) (phases_at net n) (also_at net n)) (length (plan_at net n))
+      (λ k below.
+      let there : n < length net.also_links = omega (arith, ok.also_count) in
+      let inside : k < length (also_at net n) = omega (arith, ok.also_counts n h) in
+      inr (refl, rw (plain.also n [] there k [] inside) refl))
+
+  link-second : (l : ℕ) → l < length net.link_names → SaysLink 2 (link_by_names net l)
+  unfolding link_by_names
+  link-second l h =
+      let given : l < length net.yields = omega (arith, ok.yield_count) in
+      let there : l < length net.links = omega (arith, ok.road_count) in
+      inr (refl, rw (plain.yields l [] given) refl, plain.walks l no_link there)
+
+  second : Says 2 (draft_by_names net)
+  unfolding draft_by_names
+  second = record {
+    nodes = All-range (SaysNode 2) (node_by_names net) (length net.node_names) node-second;
+    links = All-range (SaysLink 2) (link_by_names net) (length net.link_names) link-second;
+  }
+
+-- version 3 can say it, and the least version can
+pub says-least : (net : Net) (version : ℕ) → IsOutline net → IsVersionOf net version → Says version (draft_by_names net)
+says-least net version ok least = elim least [
+  | inl is ↦ rw is.0 (second net ok is.1)
+  | inr is ↦ rw is.0 (record { nodes = λ k d h i p g. inl refl; links = λ k d h. inl refl })
+]
+
+-- it is 2 or 3
+pub known-least : (net : Net) (version : ℕ) → IsVersionOf net version → (2 ≤ version) × (version ≤ 3)
+known-least net version least = elim least [
+  | inl is ↦ (omega (arith, is.0), omega (arith, is.0))
+  | inr is ↦ (omega (arith, is.0), omega (arith, is.0))
+]
+
+pub upgraded : (bytes : List ℕ) (draft : Draft) (net : Net) (version : ℕ) → IsNetwork net → IsVersionOf net version → draft ≡ draft_by_names net → IsTextOfDraft version bytes draft → IsUpgraded bytes net
+upgraded bytes draft net version is least same text = record {
   network = record {
     draft = draft;
     text = record { utf8 = text.utf8; table = text.table; toml = text.toml; form = text.form; version = text.known };
-    network = rw same (own-draft net is none);
+    network = rw same (own-draft net is);
   };
   table = text.table;
   toml = text.toml;
-  version = text.version;
+  version = version;
+  least = least;
+  said = text.said;
 }

@@ -1,13 +1,25 @@
 -- What is written of a network.
-use Rattle.std.specs.Prelude.{◌≡◌, ℕ, codes, pos, List, Some}
+use Rattle.std.specs.Prelude.{◌≡◌, ℕ, ◌⊎◌, codes, pos, List, [], Some, None, All}
 use Rattle.toml.specs.Data.{Members, integer, get_member}
 use Rattle.toml.specs.Parse.{parse_document}
 use Rattle.net_parts.specs.Numbers.{Net}
 use Rattle.net_file.specs.NetworkText.{IsNetworkText}
 
--- a text of this very network whose table says version 2
+-- what version 2 can say: no phase names a further link, and no link gives way to another one or has a walk
+pub record IsPlain (net : Net) : Type 0 where
+  pub also : All (λ phases. All (λ links. links ≡ []) phases) net.also_links
+  pub yields : All (λ links. links ≡ []) net.yields
+  pub walks : All (λ l. l.walk ≡ None) net.links
+
+-- the least version that can say a network: 2, or else 3
+abbrev pub IsVersionOf : Net → ℕ → Type 0
+IsVersionOf net version = ((version ≡ 2) × IsPlain net) ⊎ ((version ≡ 3) × ¬ IsPlain net)
+
+-- a text of this very network whose table says the least version that can say it
 pub record IsUpgraded (bytes : List ℕ) (net : Net) : Type 0 where
   pub network : IsNetworkText bytes net
   pub table : Members
   pub toml : parse_document bytes ≡ Some table
-  pub version : get_member (codes "version") table ≡ Some (integer (pos 2))
+  pub version : ℕ
+  pub least : IsVersionOf net version
+  pub said : get_member (codes "version") table ≡ Some (integer (pos version))

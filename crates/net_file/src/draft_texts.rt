@@ -3,7 +3,7 @@ ghost use Rattle.std.specs.Prelude.{◌≡◌, ◌≤◌, Some, OnOk, IfOk, IsUt
 ghost use Rattle.toml.specs.Data.{no_members, members_depth};
 ghost use Rattle.toml.specs.Parse.{parse_document};
 ghost use Rattle.toml.specs.View.{table_view};
-ghost use Rattle.net_file.specs.Written.{AreMembersOf, IsPrinted, IsTextOfDraft};
+ghost use Rattle.net_file.specs.Written.{AreMembersOf, IsPrinted, IsTextOfDraft, Says};
 
 use crate::puts::put_number;
 use crate::tables::{put_table, put_tables, put_tables_if_any};
@@ -11,27 +11,29 @@ use net_parts::Draft;
 use std::alloc::{AllocError, Global};
 use toml::Table;
 
-/// The version that is written.
-const VERSION: u32 = 2;
-
-/// The network file of a draft, of version 2: it has every mark and weight, and of what else may be absent `split`
-/// where it is true, `age`, `hold`, `recall`, `act_step`, `rate` and the ends of links where the draft has them, and an array where it is not
-/// empty. `Err`: out of memory.
+/// The network file of a draft, of a version in which it can stand: it has every mark and weight, and of what else may be absent
+/// `split` where it is true, `age`, `hold`, `recall`, `act_step`, `rate`, the ends of links, yields and walks where the draft has them, and an
+/// array where it is not empty. `Err`: out of memory.
 ///
 /// docs/FORMATS.md, "Network file".
-pub(crate) fn draft_text(alloc: Global, draft: &Draft) -> Result<Vec<u8>, AllocError>
-    ensures { IfOk result (λ bytes. IsTextOfDraft bytes.items draft.now) }
+pub(crate) fn draft_text(alloc: Global, draft: &Draft, version: u32) -> Result<Vec<u8>, AllocError>
+    requires known { (2 ≤ version) × (version ≤ 3) }
+    requires says { Says version draft.now }
+    ensures { IfOk result (λ bytes. IsTextOfDraft version bytes.items draft.now) }
 {
     let mut table = Table::new(alloc);
-    fill(alloc, &mut table, draft)?;
+    fill(alloc, &mut table, draft, version)?;
     print(alloc, &table)
 }
 
-/// Fills an empty table with the draft.
-fn fill(alloc: Global, table: &mut Table, draft: &Draft) -> Result<(), AllocError>
-    ensures { OnOk result (table_view table.old ≡ no_members → AreMembersOf 5 (table_view table.new) draft.now) }
+/// Fills an empty table with the version and the draft.
+fn fill(alloc: Global, table: &mut Table, draft: &Draft, version: u32) -> Result<(), AllocError>
+    requires known { (2 ≤ version) × (version ≤ 3) }
+    requires says { Says version draft.now }
+    ensures { OnOk result
+        (table_view table.old ≡ no_members → AreMembersOf 5 version (table_view table.new) draft.now) }
 {
-    put_number(alloc, table, "version", VERSION)?;
+    put_number(alloc, table, "version", version)?;
     put_table(alloc, table, "run", &draft.run)?;
     put_tables(alloc, table, "node", &draft.nodes)?;
     put_tables(alloc, table, "link", &draft.links)?;

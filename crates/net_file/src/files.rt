@@ -1,15 +1,16 @@
 //! A network from its file, and the file of a network.
-ghost use Rattle.std.specs.Prelude.{◌<◌, ◌^◌, IfOk, IfErr, length};
+ghost use Rattle.std.specs.Prelude.{◌↔◌, ◌≡◌, [], IsTrue, All, ◌<◌, ◌^◌, IfOk, IfErr, length};
 ghost use Rattle.net_parts.specs.Numbers.{Net};
-ghost use Rattle.net_parts.specs.Outline.{HasNoOverlaps};
 ghost use Rattle.net_tables.specs.Faults.{Unless};
 ghost use Rattle.net_file.specs.NetworkText.{IsNetworkText, IsCause};
 ghost use Rattle.net_file.specs.Reading.{Drafts};
-ghost use Rattle.net_file.specs.Upgrade.{IsUpgraded};
+ghost use Rattle.net_file.specs.Upgrade.{IsPlain, IsVersionOf, IsUpgraded};
+ghost use Rattle.net_parts.specs.Parts.{net_of};
 
 use crate::by_names::draft_by_names;
+use foundation::items::Items;
 use net_build::build;
-use net_parts::{Draft, NetFault, Place, Section};
+use net_parts::{Draft, NetFault, Parts, Place, Section};
 use net_tables::{has_known_version, read_draft};
 use road_net::Network;
 use std::alloc::{AllocError, Global};
@@ -17,7 +18,7 @@ use std::alloc::{AllocError, Global};
 /// The network of a text, which is read as TOML. The text has fewer than 2^32 bytes.
 ///
 /// The fault is out of memory, `NotToml` where the text is no UTF-8 or no TOML, `Shape` of the first table that has
-/// not the form of its place, `Bound` of the whole table where it says a version other than 2, and else that of
+/// not the form of its place, `Bound` of the whole table where it says a version other than 2 and 3, and else that of
 /// `build`.
 ///
 /// docs/FORMATS.md, "Network file".
@@ -59,16 +60,43 @@ fn parse_draft(alloc: Global, bytes: &[u8]) -> Result<Draft, NetFault>
     Ok(draft)
 }
 
-/// The network file of a network, of version 2: it has every mark and weight, and of what else may be absent `split`
-/// where it is true, `age`, `hold`, `recall`, `act_step`, `rate` and the ends of links where the network has them, and an array where it is not
-/// empty. What is read from it is this very network, with the same value of every accessor. No file names further links of a
-/// phase yet, so the network has none. `Err`: out of memory.
+/// The network file of a network, of the least version that can say it: 2, or 3 where a phase names a further link or a link gives way or
+/// has a walk. It has every mark and weight, and of what else may be absent `split` where it is true, `age`, `hold`, `recall`,
+/// `act_step`, `rate`, the ends of links, yields and walks where the network has them, and an array where it is not empty. What is read from it is
+/// this very network, with the same value of every accessor. `Err`: out of memory.
 ///
 /// docs/FORMATS.md, "Network file".
 pub fn write_network(alloc: Global, net: &Network) -> Result<Vec<u8>, AllocError>
-    requires { HasNoOverlaps net.now }
     ensures { IfOk result (λ bytes. IsUpgraded bytes.items net.now) }
 {
-    let draft = draft_by_names(alloc, net.parts())?;
-    crate::draft_texts::draft_text(alloc, &draft)
+    let parts = net.parts();
+    let draft = draft_by_names(alloc, parts)?;
+    crate::draft_texts::draft_text(alloc, &draft, version_of(parts))
+}
+
+/// The least version that can say the network of these parts.
+fn version_of(parts: &Parts) -> u32
+    ensures { IsVersionOf (net_of parts.now) result }
+{
+    if is_plain(parts) { 2 } else { 3 }
+}
+
+/// Whether version 2 can say it.
+fn is_plain(parts: &Parts) -> bool
+    ensures { IsTrue result ↔ IsPlain (net_of parts.now) }
+{
+    let names_none = parts
+        .also_links
+        .iter()
+        .all(|phases| names_none(phases.as_slice()));
+    names_none
+        && parts.yields.iter().all(|links| links.as_slice().is_empty())
+        && parts.links.iter().all(|link| link.walk.is_none())
+}
+
+/// Whether none of these phases names a link.
+fn names_none(phases: &[Items<u32>]) -> bool
+    ensures { IsTrue result ↔ All (λ links. links ≡ []) phases.now }
+{
+    phases.iter().all(|links| links.as_slice().is_empty())
 }

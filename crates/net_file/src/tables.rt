@@ -1,35 +1,40 @@
 //! The tables of a network file, each made of a part of the draft.
-ghost use Rattle.std.specs.Prelude.{ℕ, true, Option, OnOk, IfOk};
-ghost use Rattle.toml.specs.Data.{Data, as_str};
+ghost use Rattle.std.specs.Prelude.{ℕ, Option, Some, OnOk, IfOk};
+ghost use Rattle.toml.specs.Data.{Data};
 ghost use Rattle.toml.specs.View.{view, table_view, items_view};
 ghost use Rattle.net_tables.specs.Table as spec;
-ghost use Rattle.net_file.specs.Written.{IsDataOf, IsFilledWith, AreItemsOf, HasData, HasItems, HasItemsIfAny, run_in};
+ghost use Rattle.net_file.specs.Written.{IsDataOf, IsFilledWith, AreItemsOf, HasData, HasItems, HasItemsIfAny, HasYields, HasWalk, SaysPhase, SaysNode, SaysLink, Always, text_in, run_in};
 
 use crate::puts::{
     put, put_flag, put_flag_if_true, put_number, put_number_if, put_text, put_text_if,
 };
 use foundation::items::Items;
 use foundation::text::Text;
-use net_parts::{DraftConflict, DraftLink, DraftNode, DraftPhase, DraftTurn, Run};
+use net_parts::{
+    DraftConflict, DraftLink, DraftNode, DraftPhase, DraftTurn, DraftYield, Run, Walk,
+};
 use std::alloc::{AllocError, Global};
 use toml::{Table, Value};
 
 /// A part of a draft that is a table in an array of the file.
 pub(crate) trait Element: Sized {
-    /// What is read from such a table.
-    ghost reading: { Data → Option Self };
+    /// What is read from such a table, in a file of a version.
+    ghost reading: { ℕ → Data → Option Self };
+
+    /// In which version it can stand.
+    ghost says: { ℕ → Self → Type 0 };
 
     /// How deep such a table is, at most.
     ghost deep: { ℕ };
 
     /// Fills an empty table.
     fn fill(&self, alloc: Global, table: &mut Table) -> Result<(), AllocError>
-        ensures { OnOk result (IsFilledWith reading deep self.now (table_view table.old) (table_view table.new)) };
+        ensures { OnOk result (IsFilledWith reading says deep self.now (table_view table.old) (table_view table.new)) };
 }
 
 /// The table of an element.
 fn table_of<T: Element>(alloc: Global, element: &T) -> Result<Value, AllocError>
-    ensures { IfOk result (λ value. IsDataOf T.reading T.deep (view value) element.now) }
+    ensures { IfOk result (λ value. IsDataOf T.reading T.says T.deep (view value) element.now) }
 {
     let mut table = Table::new(alloc);
     element.fill(alloc, &mut table)?;
@@ -38,7 +43,7 @@ fn table_of<T: Element>(alloc: Global, element: &T) -> Result<Value, AllocError>
 
 /// The tables of some elements, in order.
 fn tables_of<T: Element>(alloc: Global, elements: &[T]) -> Result<Vec<Value>, AllocError>
-    ensures { IfOk result (λ values. AreItemsOf T.reading T.deep (items_view values.items) elements.now) }
+    ensures { IfOk result (λ values. AreItemsOf T.reading T.says T.deep (items_view values.items) elements.now) }
 {
     let mut values = Vec::new(alloc);
     for element in elements {
@@ -54,7 +59,7 @@ pub(crate) fn put_table<T: Element>(
     key: &str,
     element: &T,
 ) -> Result<(), AllocError>
-    ensures { OnOk result (HasData T.reading T.deep key.now element.now (table_view table.old) (table_view table.new)) }
+    ensures { OnOk result (HasData T.reading T.says T.deep key.now element.now (table_view table.old) (table_view table.new)) }
 {
     let value = table_of(alloc, element)?;
     put(alloc, table, key, value)
@@ -68,7 +73,7 @@ pub(crate) fn put_tables<T: Element>(
     elements: &Items<T>,
 ) -> Result<(), AllocError>
     ensures { OnOk result
-        (HasItems T.reading T.deep key.now elements.now (table_view table.old) (table_view table.new)) }
+        (HasItems T.reading T.says T.deep key.now elements.now (table_view table.old) (table_view table.new)) }
 {
     let values = tables_of(alloc, elements.as_slice())?;
     put(alloc, table, key, Value::Array(values))
@@ -82,7 +87,7 @@ pub(crate) fn put_tables_if_any<T: Element>(
     elements: &Items<T>,
 ) -> Result<(), AllocError>
     ensures { OnOk result
-        (HasItemsIfAny T.reading T.deep key.now elements.now (table_view table.old) (table_view table.new)) }
+        (HasItemsIfAny T.reading T.says T.deep key.now elements.now (table_view table.old) (table_view table.new)) }
 {
     if elements.as_slice().is_empty() {
         Ok(())
@@ -93,7 +98,7 @@ pub(crate) fn put_tables_if_any<T: Element>(
 
 /// The texts as values, in order.
 fn values_of(alloc: Global, texts: &[Text]) -> Result<Vec<Value>, AllocError>
-    ensures { IfOk result (λ values. AreItemsOf as_str 0 (items_view values.items) texts.now) }
+    ensures { IfOk result (λ values. AreItemsOf text_in Always 0 (items_view values.items) texts.now) }
 {
     let mut values = Vec::new(alloc);
     for text in texts {
@@ -109,14 +114,62 @@ fn put_texts(
     key: &str,
     texts: &Items<Text>,
 ) -> Result<(), AllocError>
-    ensures { OnOk result (HasItems as_str 0 key.now texts.now (table_view table.old) (table_view table.new)) }
+    ensures { OnOk result (HasItems text_in Always 0 key.now texts.now (table_view table.old) (table_view table.new)) }
 {
     let values = values_of(alloc, texts.as_slice())?;
     put(alloc, table, key, Value::Array(values))
 }
 
+/// Puts an array of texts at a key, where there are texts.
+fn put_texts_if_any(
+    alloc: Global,
+    table: &mut Table,
+    key: &str,
+    texts: &Items<Text>,
+) -> Result<(), AllocError>
+    ensures { OnOk result (HasItemsIfAny text_in Always 0 key.now texts.now (table_view table.old) (table_view table.new)) }
+{
+    if texts.as_slice().is_empty() {
+        Ok(())
+    } else {
+        put_texts(alloc, table, key, texts)
+    }
+}
+
+/// Puts the links to which a link gives way, and its discharge then, where there are any.
+fn put_yields(
+    alloc: Global,
+    table: &mut Table,
+    yields: &Option<DraftYield>,
+) -> Result<(), AllocError>
+    ensures { OnOk result (HasYields yields.now (table_view table.old) (table_view table.new)) }
+{
+    match yields {
+        Some(given) => {
+            put_texts(alloc, table, "yields", &given.links)?;
+            put_number(alloc, table, "yield_sat", given.sat)
+        }
+        None => Ok(()),
+    }
+}
+
+/// Puts a walk, where there is one.
+fn put_walk(alloc: Global, table: &mut Table, walk: Option<Walk>) -> Result<(), AllocError>
+    ensures { OnOk result (HasWalk walk (table_view table.old) (table_view table.new)) }
+{
+    match walk {
+        Some(walk) => {
+            put_number(alloc, table, "walk", walk.seconds)?;
+            put_number(alloc, table, "cross", walk.cross)
+        }
+        None => Ok(()),
+    }
+}
+
 impl Element for Run {
     ghost reading = { run_in };
+
+    ghost says = { Always };
 
     ghost deep = { 1 };
 
@@ -135,7 +188,9 @@ impl Element for Run {
 }
 
 impl Element for DraftNode {
-    ghost reading = { spec.node_of true };
+    ghost reading = { λ version. spec.node_of (Some version) };
+
+    ghost says = { SaysNode };
 
     ghost deep = { 4 };
 
@@ -146,7 +201,9 @@ impl Element for DraftNode {
 }
 
 impl Element for DraftPhase {
-    ghost reading = { spec.phase_of true };
+    ghost reading = { λ version. spec.phase_of (Some version) };
+
+    ghost says = { SaysPhase };
 
     ghost deep = { 2 };
 
@@ -159,12 +216,15 @@ impl Element for DraftPhase {
         put_number(alloc, table, "loss", phase.loss)?;
         put_number(alloc, table, "wait", phase.wait)?;
         put_flag(alloc, table, "skip", phase.skip)?;
-        put_texts(alloc, table, "links", &self.links)
+        put_texts(alloc, table, "links", &self.links)?;
+        put_texts_if_any(alloc, table, "also", &self.also)
     }
 }
 
 impl Element for DraftLink {
-    ghost reading = { spec.link_of true };
+    ghost reading = { λ version. spec.link_of (Some version) };
+
+    ghost says = { SaysLink };
 
     ghost deep = { 3 };
 
@@ -175,12 +235,16 @@ impl Element for DraftLink {
         put_number(alloc, table, "travel", self.travel)?;
         put_number(alloc, table, "sat", self.sat)?;
         put_number(alloc, table, "weight", self.weight)?;
+        put_yields(alloc, table, &self.yields)?;
+        put_walk(alloc, table, self.walk)?;
         put_tables_if_any(alloc, table, "turn", &self.turns)
     }
 }
 
 impl Element for DraftTurn {
-    ghost reading = { spec.turn_of };
+    ghost reading = { λ _. spec.turn_of };
+
+    ghost says = { Always };
 
     ghost deep = { 1 };
 
@@ -191,7 +255,9 @@ impl Element for DraftTurn {
 }
 
 impl Element for DraftConflict {
-    ghost reading = { spec.conflict_of };
+    ghost reading = { λ _. spec.conflict_of };
+
+    ghost says = { Always };
 
     ghost deep = { 1 };
 

@@ -1,5 +1,5 @@
 -- The first table at fault, from the readings of the tables within a table.
-use Rattle.std.proofs.Common.{◌≡◌, ℕ, ◌<◌, Bool, List, length, get_or, take, map, Option, Some, None, IsSome, Result, Err, IfErr, refl, subst, sym, ap, ◌∙◌}
+use Rattle.std.proofs.Common.{◌≡◌, ℕ, ◌<◌, List, length, get_or, take, map, Option, Some, None, IsSome, Result, Err, IfErr, refl, subst, sym, ap, ◌∙◌}
 use Rattle.std.proofs.lemmas.List.{take-map}
 use Rattle.std.proofs.lemmas.Option.{slice_get-map, slice_get_read, get_or_from_slice_get}
 use Rattle.toml.specs.Data.{Data, Members}
@@ -11,8 +11,9 @@ use Rattle.foundation.proofs.OptionLaws.{and-some, some-and, bind-none}
 use Rattle.net_tables.specs.Faults.{Misses, Blames}
 use Rattle.net_tables.specs.FirstShape.{ordinal, IsAfterRead, IsFirstUnread, IsNodeFault, IsLinkFault, IsFaultWithin, IsShapeFault}
 use Rattle.net_tables.specs.Reading.{IsFaultAmong, IsNodeAtFault, IsPhaseAtFault, IsLinkAtFault, IsConflictAtFault}
-use Rattle.net_tables.specs.Table.{NodeForm, LinkForm, TopForm, is_complete, top_form, run_of, node_form, node_of, phase_of, link_form, link_of, turn_of, conflict_of, draft_of}
+use Rattle.net_tables.specs.Table.{NodeForm, LinkForm, TopForm, top_form, run_of, node_form, node_of, phase_of, link_own, link_of, turn_of, conflict_of, draft_of}
 use Rattle.net_parts.specs.declared.drafts.Draft.{Draft}
+use Rattle.net_parts.specs.declared.drafts.DraftYield.{DraftYield}
 use Rattle.net_parts.specs.declared.faults.NetFault.{NetFault}
 use Rattle.net_parts.specs.declared.faults.NetFault.TheVariants.{NoMemory, Shape}
 use Rattle.net_parts.specs.declared.faults.Section.{Section}
@@ -62,10 +63,10 @@ after f at_fault item named ds number P among is step = record {
 }
 
 -- the first phase of a node that is not read, and the first turn of a link
-pub phases-fault : (complete : Bool) (d : Data) (node : NodeForm) (item number : ℕ) (named : Place) → node_form d ≡ Some node → IsFaultAmong (phase_of complete) (IsPhaseAtFault complete) number node.phases named → IsNodeAtFault complete item number d named
-phases-fault complete d node item number named is among =
-    let first = after (phase_of complete) (IsPhaseAtFault complete) number named node.phases (ordinal among.index) (λ d. phase_of complete d ≡ None) among refl (λ d h. h.1) in
-    subst (IsNodeAtFault complete item number d) (sym among.first.here.0) (refl, and-some (λ (n : NodeForm). IsFirstUnread (phase_of complete) n.phases (ordinal among.index)) (node_form d) node is first)
+pub phases-fault : (version : Option ℕ) (d : Data) (node : NodeForm) (item number : ℕ) (named : Place) → node_form d ≡ Some node → IsFaultAmong (phase_of version) (IsPhaseAtFault version) number node.phases named → IsNodeAtFault version item number d named
+phases-fault version d node item number named is among =
+    let first = after (phase_of version) (IsPhaseAtFault version) number named node.phases (ordinal among.index) (λ d. phase_of version d ≡ None) among refl (λ d h. h.1) in
+    subst (IsNodeAtFault version item number d) (sym among.first.here.0) (refl, and-some (λ (n : NodeForm). IsFirstUnread (phase_of version) n.phases (ordinal among.index)) (node_form d) node is first)
 
 module _ (ms : Members) (top : TopForm) (form : top_form ms ≡ Some top) where
   -- a fault of the tables within the file is its fault
@@ -82,55 +83,55 @@ module _ (ms : Members) (top : TopForm) (form : top_form ms ≡ Some top) where
   run-fault none = within Run 0 0 (refl, refl, none)
 
   module _ (run : IsSome (run_of top.run)) where
-    node-within : (part : Section) (item sub : ℕ) → IsAfterRead (node_of (is_complete top)) (λ d. IsNodeFault (is_complete top) d part sub) top.nodes item → IsFaultWithin top part item sub
+    node-within : (part : Section) (item sub : ℕ) → IsAfterRead (node_of top.version) (λ d. IsNodeFault top.version d part sub) top.nodes item → IsFaultWithin top part item sub
     node-within Node item sub h = (run, h)
     node-within Phase item sub h = (run, h)
     node-within _ item sub h = absurd h.at.here
 
     -- the first node that is not read
-    pub nodes-fault : (named : Place) → IsFaultAmong (node_of (is_complete top)) (IsNodeAtFault (is_complete top)) 0 top.nodes named → IsShapeFault ms named.part named.item named.sub
+    pub nodes-fault : (named : Place) → IsFaultAmong (node_of top.version) (IsNodeAtFault top.version) 0 top.nodes named → IsShapeFault ms named.part named.item named.sub
     nodes-fault named among =
-        within named.part named.item named.sub (node-within named.part named.item named.sub (after (node_of (is_complete top)) (IsNodeAtFault (is_complete top)) 0 named top.nodes named.item (λ d. IsNodeFault (is_complete top) d named.part named.sub) among among.first.here.0 (λ d h. h.1)))
+        within named.part named.item named.sub (node-within named.part named.item named.sub (after (node_of top.version) (IsNodeAtFault top.version) 0 named top.nodes named.item (λ d. IsNodeFault top.version d named.part named.sub) among among.first.here.0 (λ d h. h.1)))
 
-    module _ (nodes : IsSome (each (node_of (is_complete top)) top.nodes)) where
-      link-within : (part : Section) (item sub : ℕ) → IsAfterRead (link_of (is_complete top)) (λ d. IsLinkFault (is_complete top) d part sub) top.links item → IsFaultWithin top part item sub
+    module _ (nodes : IsSome (each (node_of top.version) top.nodes)) where
+      link-within : (part : Section) (item sub : ℕ) → IsAfterRead (link_of top.version) (λ d. IsLinkFault top.version d part sub) top.links item → IsFaultWithin top part item sub
       link-within Link item sub h = (run, nodes, h)
       link-within Turn item sub h = (run, nodes, h)
       link-within _ item sub h = absurd h.at.here
 
       -- the first link that is not read
-      pub links-fault : (named : Place) → IsFaultAmong (link_of (is_complete top)) (IsLinkAtFault (is_complete top)) 0 top.links named → IsShapeFault ms named.part named.item named.sub
+      pub links-fault : (named : Place) → IsFaultAmong (link_of top.version) (IsLinkAtFault top.version) 0 top.links named → IsShapeFault ms named.part named.item named.sub
       links-fault named among =
-          within named.part named.item named.sub (link-within named.part named.item named.sub (after (link_of (is_complete top)) (IsLinkAtFault (is_complete top)) 0 named top.links named.item (λ d. IsLinkFault (is_complete top) d named.part named.sub) among among.first.here.0 (λ d h. h.1)))
+          within named.part named.item named.sub (link-within named.part named.item named.sub (after (link_of top.version) (IsLinkAtFault top.version) 0 named top.links named.item (λ d. IsLinkFault top.version d named.part named.sub) among among.first.here.0 (λ d h. h.1)))
 
       -- the first conflict that is not read
-      pub conflicts-fault : IsSome (each (link_of (is_complete top)) top.links) → (named : Place) → IsFaultAmong conflict_of (IsConflictAtFault (is_complete top)) 0 top.conflicts named → IsShapeFault ms named.part named.item named.sub
+      pub conflicts-fault : IsSome (each (link_of top.version) top.links) → (named : Place) → IsFaultAmong conflict_of (IsConflictAtFault top.version) 0 top.conflicts named → IsShapeFault ms named.part named.item named.sub
       conflicts-fault links named among =
-          let first = after conflict_of (IsConflictAtFault (is_complete top)) 0 named top.conflicts (ordinal among.index) (λ d. conflict_of d ≡ None) among refl (λ d h. h.1) in
+          let first = after conflict_of (IsConflictAtFault top.version) 0 named top.conflicts (ordinal among.index) (λ d. conflict_of d ≡ None) among refl (λ d h. h.1) in
           subst (λ (n : Place). IsShapeFault ms n.part n.item n.sub) (sym among.first.here.0) (within Conflict (ordinal among.index) 0 (run, nodes, links, refl, first))
 
 -- a node with a fault is not read, nor is a link
-node-none : (complete : Bool) (d : Data) (part : Section) (sub : ℕ) → IsNodeFault complete d part sub → node_of complete d ≡ None
+node-none : (version : Option ℕ) (d : Data) (part : Section) (sub : ℕ) → IsNodeFault version d part sub → node_of version d ≡ None
 unfolding node_of
-node-none complete d Node sub h = rw h.1 refl
-node-none complete d Phase sub h =
-    let (node, is, first) = some-and (λ (n : NodeForm). IsFirstUnread (phase_of complete) n.phases sub) (node_form d) h in
-    rw (is, none-after (phase_of complete) (λ x. phase_of complete x ≡ None) node.phases sub (λ x no. no) first) refl
-node-none complete d _ sub h = absurd h
+node-none version d Node sub h = rw h.1 refl
+node-none version d Phase sub h =
+    let (node, is, first) = some-and (λ (n : NodeForm). IsFirstUnread (phase_of version) n.phases sub) (node_form d) h in
+    rw (is, none-after (phase_of version) (λ x. phase_of version x ≡ None) node.phases sub (λ x no. no) first) refl
+node-none version d _ sub h = absurd h
 
-link-none : (complete : Bool) (d : Data) (part : Section) (sub : ℕ) → IsLinkFault complete d part sub → link_of complete d ≡ None
+link-none : (version : Option ℕ) (d : Data) (part : Section) (sub : ℕ) → IsLinkFault version d part sub → link_of version d ≡ None
 unfolding link_of
-link-none complete d Link sub h = rw h.1 refl
-link-none complete d Turn sub h =
-    let (link, is, first) = some-and (λ (l : LinkForm). IsFirstUnread turn_of l.turns sub) (link_form complete d) h in
-    rw (is, none-after turn_of (λ x. turn_of x ≡ None) link.turns sub (λ x no. no) first) refl
-link-none complete d _ sub h = absurd h
+link-none version d Link sub h = rw h.1 refl
+link-none version d Turn sub h =
+    let (link, is, first) = some-and (λ (l : LinkForm × Option DraftYield). IsFirstUnread turn_of l.0.turns sub) (link_own version d) h in
+    rw (is, none-after turn_of (λ x. turn_of x ≡ None) link.0.turns sub (λ x no. no) first) refl
+link-none version d _ sub h = absurd h
 
 abbrev within_top : TopForm → Option Draft
 within_top top = do
   run ← run_of top.run
-  nodes ← each (node_of (is_complete top)) top.nodes
-  links ← each (link_of (is_complete top)) top.links
+  nodes ← each (node_of top.version) top.nodes
+  links ← each (link_of top.version) top.links
   conflicts ← each conflict_of top.conflicts
   Some (record { run = run; nodes = nodes; links = links; conflicts = conflicts })
 
@@ -139,20 +140,20 @@ within_top-none : (top : TopForm) (part : Section) (item sub : ℕ) → IsFaultW
 within_top-none top Top item sub h = absurd h
 within_top-none top Run item sub h = rw h.2 refl
 within_top-none top Node item sub h =
-    let nodes = none-after (node_of (is_complete top)) (λ d. IsNodeFault (is_complete top) d Node sub) top.nodes item (λ d k. node-none (is_complete top) d Node sub k) h.1 in
+    let nodes = none-after (node_of top.version) (λ d. IsNodeFault top.version d Node sub) top.nodes item (λ d k. node-none top.version d Node sub k) h.1 in
     bind-none (run_of top.run) _ (λ run. rw nodes refl)
 within_top-none top Phase item sub h =
-    let nodes = none-after (node_of (is_complete top)) (λ d. IsNodeFault (is_complete top) d Phase sub) top.nodes item (λ d k. node-none (is_complete top) d Phase sub k) h.1 in
+    let nodes = none-after (node_of top.version) (λ d. IsNodeFault top.version d Phase sub) top.nodes item (λ d k. node-none top.version d Phase sub k) h.1 in
     bind-none (run_of top.run) _ (λ run. rw nodes refl)
 within_top-none top Link item sub h =
-    let links = none-after (link_of (is_complete top)) (λ d. IsLinkFault (is_complete top) d Link sub) top.links item (λ d k. link-none (is_complete top) d Link sub k) h.2 in
-    bind-none (run_of top.run) _ (λ run. bind-none (each (node_of (is_complete top)) top.nodes) _ (λ nodes. rw links refl))
+    let links = none-after (link_of top.version) (λ d. IsLinkFault top.version d Link sub) top.links item (λ d k. link-none top.version d Link sub k) h.2 in
+    bind-none (run_of top.run) _ (λ run. bind-none (each (node_of top.version) top.nodes) _ (λ nodes. rw links refl))
 within_top-none top Turn item sub h =
-    let links = none-after (link_of (is_complete top)) (λ d. IsLinkFault (is_complete top) d Turn sub) top.links item (λ d k. link-none (is_complete top) d Turn sub k) h.2 in
-    bind-none (run_of top.run) _ (λ run. bind-none (each (node_of (is_complete top)) top.nodes) _ (λ nodes. rw links refl))
+    let links = none-after (link_of top.version) (λ d. IsLinkFault top.version d Turn sub) top.links item (λ d k. link-none top.version d Turn sub k) h.2 in
+    bind-none (run_of top.run) _ (λ run. bind-none (each (node_of top.version) top.nodes) _ (λ nodes. rw links refl))
 within_top-none top Conflict item sub h =
     let conflicts = none-after conflict_of (λ d. conflict_of d ≡ None) top.conflicts item (λ d no. no) h.4 in
-    bind-none (run_of top.run) _ (λ run. bind-none (each (node_of (is_complete top)) top.nodes) _ (λ nodes. bind-none (each (link_of (is_complete top)) top.links) _ (λ links. rw conflicts refl)))
+    bind-none (run_of top.run) _ (λ run. bind-none (each (node_of top.version) top.nodes) _ (λ nodes. bind-none (each (link_of top.version) top.links) _ (λ links. rw conflicts refl)))
 
 -- and so has one with any fault
 draft-none : (ms : Members) (part : Section) (item sub : ℕ) → IsShapeFault ms part item sub → draft_of ms ≡ None

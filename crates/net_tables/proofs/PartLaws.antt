@@ -1,11 +1,11 @@
 -- A table that is read in groups of keys stands for the same as one that is read key by key.
-use Rattle.std.proofs.Common.{◌≡◌, Bool, false, Option, Some, None, refl}
+use Rattle.std.proofs.Common.{◌≡◌, ℕ, true, false, [], ◌∷◌, Option, Some, None, is_some, refl}
 use Rattle.std.specs.Prelude.{codes}
 use Rattle.toml.specs.Data.{Data, Members, as_table}
 use Rattle.foundation.specs.Options.{◌>>=◌}
 use Rattle.phase_plan.specs.declared.Phase.{Phase}
 use Rattle.net_tables.specs.Parts.{numbers_at, optional_numbers_at, run_fields, phase_times, phase_fields, link_numbers, link_ends, link_fields}
-use Rattle.net_tables.specs.Table.{PhaseForm, LinkForm, only, run_keys, run_of, phase_keys, phase_form, link_keys, link_form, number_at, optional_number_at, flag_at, weight_at, text_at, optional_text_at, list_at, optional_list_at}
+use Rattle.net_tables.specs.Table.{PhaseForm, LinkForm, only, run_keys, run_of, has_overlaps, phase_keys, phase_keys_in, phase_form, link_keys, link_keys_in, link_form, number_at, optional_number_at, flag_at, weight_at, text_at, optional_text_at, list_at, optional_list_at, yields_at, walk_at}
 use Rattle.net_parts.specs.declared.drafts.Run.{Run}
 
 -- two options one after the other, as one
@@ -32,30 +32,30 @@ pairs-run (Some a) (Some b) (Some c) (Some d) (Some e) (Some f) (Some g) (Some h
 pairs-run (Some a) (Some b) (Some c) (Some d) (Some e) (Some f) (Some g) (Some h) (Some i) None k = refl
 pairs-run (Some a) (Some b) (Some c) (Some d) (Some e) (Some f) (Some g) (Some h) (Some i) (Some j) k = refl
 
--- six options and another one, in pairs as one, and then one more
-pairs-phase : {X Y Z P W : Type 0} (a b c d e f : Option X) (g : Option Y) (h : Option Z) (m : X → X → X → X → X → X → Y → P) (k : P → Z → W)
-    → (a >>= λ a. b >>= λ b. c >>= λ c. d >>= λ d. e >>= λ e. f >>= λ f. g >>= λ g. h >>= λ h. Some (k (m a b c d e f g) h))
-    ≡ ((both a b >>= λ p. both c d >>= λ q. both e f >>= λ r. g >>= λ g. Some (m p.0 p.1 q.0 q.1 r.0 r.1 g)) >>= λ x. h >>= λ h. Some (k x h))
-pairs-phase None b c d e f g h m k = refl
-pairs-phase (Some a) None c d e f g h m k = refl
-pairs-phase (Some a) (Some b) None d e f g h m k = refl
-pairs-phase (Some a) (Some b) (Some c) None e f g h m k = refl
-pairs-phase (Some a) (Some b) (Some c) (Some d) None f g h m k = refl
-pairs-phase (Some a) (Some b) (Some c) (Some d) (Some e) None g h m k = refl
-pairs-phase (Some a) (Some b) (Some c) (Some d) (Some e) (Some f) None h m k = refl
-pairs-phase (Some a) (Some b) (Some c) (Some d) (Some e) (Some f) (Some g) h m k = refl
+-- six options and another one, in pairs as one, and then two more
+pairs-phase : {X Y Z P W : Type 0} (a b c d e f : Option X) (g : Option Y) (h i : Option Z) (m : X → X → X → X → X → X → Y → P) (k : P → Z → Z → W)
+    → (a >>= λ a. b >>= λ b. c >>= λ c. d >>= λ d. e >>= λ e. f >>= λ f. g >>= λ g. h >>= λ h. i >>= λ i. Some (k (m a b c d e f g) h i))
+    ≡ ((both a b >>= λ p. both c d >>= λ q. both e f >>= λ r. g >>= λ g. Some (m p.0 p.1 q.0 q.1 r.0 r.1 g)) >>= λ x. h >>= λ h. i >>= λ i. Some (k x h i))
+pairs-phase None b c d e f g h i m k = refl
+pairs-phase (Some a) None c d e f g h i m k = refl
+pairs-phase (Some a) (Some b) None d e f g h i m k = refl
+pairs-phase (Some a) (Some b) (Some c) None e f g h i m k = refl
+pairs-phase (Some a) (Some b) (Some c) (Some d) None f g h i m k = refl
+pairs-phase (Some a) (Some b) (Some c) (Some d) (Some e) None g h i m k = refl
+pairs-phase (Some a) (Some b) (Some c) (Some d) (Some e) (Some f) None h i m k = refl
+pairs-phase (Some a) (Some b) (Some c) (Some d) (Some e) (Some f) (Some g) h i m k = refl
 
--- three options as one, and two as one, after one and before one
-pairs-link : {N X E T W : Type 0} (n : Option N) (a b w : Option X) (f t : Option E) (l : Option T) (k : N → X → X → X → E → E → T → W)
-    → (n >>= λ n. a >>= λ a. b >>= λ b. w >>= λ w. f >>= λ f. t >>= λ t. l >>= λ l. Some (k n a b w f t l))
-    ≡ (n >>= λ n. three a b w >>= λ m. both f t >>= λ e. l >>= λ l. Some (k n m.0 m.1 m.2 e.0 e.1 l))
-pairs-link None a b w f t l k = refl
-pairs-link (Some n) None b w f t l k = refl
-pairs-link (Some n) (Some a) None w f t l k = refl
-pairs-link (Some n) (Some a) (Some b) None f t l k = refl
-pairs-link (Some n) (Some a) (Some b) (Some w) None t l k = refl
-pairs-link (Some n) (Some a) (Some b) (Some w) (Some f) None l k = refl
-pairs-link (Some n) (Some a) (Some b) (Some w) (Some f) (Some t) l k = refl
+-- three options as one, and two as one, after one and before three
+pairs-link : {N X E Y V T W : Type 0} (n : Option N) (a b w : Option X) (f t : Option E) (y : Option Y) (v : Option V) (l : Option T) (k : N → X → X → X → E → E → Y → V → T → W)
+    → (n >>= λ n. a >>= λ a. b >>= λ b. w >>= λ w. f >>= λ f. t >>= λ t. y >>= λ y. v >>= λ v. l >>= λ l. Some (k n a b w f t y v l))
+    ≡ (n >>= λ n. three a b w >>= λ m. both f t >>= λ e. y >>= λ y. v >>= λ v. l >>= λ l. Some (k n m.0 m.1 m.2 e.0 e.1 y v l))
+pairs-link None a b w f t y v l k = refl
+pairs-link (Some n) None b w f t y v l k = refl
+pairs-link (Some n) (Some a) None w f t y v l k = refl
+pairs-link (Some n) (Some a) (Some b) None f t y v l k = refl
+pairs-link (Some n) (Some a) (Some b) (Some w) None t y v l k = refl
+pairs-link (Some n) (Some a) (Some b) (Some w) (Some f) None y v l k = refl
+pairs-link (Some n) (Some a) (Some b) (Some w) (Some f) (Some t) y v l k = refl
 
 -- the run of a table that has its keys and no other
 pub run-by_fields : (ms inner : Members) → Some inner ≡ only run_keys ms → run_of ms ≡ run_fields inner
@@ -68,18 +68,35 @@ run-by_fields ms inner is =
     let run : Run = record { step = step; look = look; gap = gap; rounds = rounds; split = split; age = age; hold = hold; recall = recall; act_step = act_step; rate = rate } in run))
 
 -- the own form of a phase, in such a table
-pub phase-by_fields : (complete : Bool) (d : Data) (ms inner : Members) → Some ms ≡ as_table d → Some inner ≡ only phase_keys ms → phase_form complete d ≡ phase_fields complete inner
+pub phase-by_fields : (version : Option ℕ) (d : Data) (ms inner : Members) → Some ms ≡ as_table d → Some inner ≡ only (phase_keys_in version) ms → phase_form version d ≡ phase_fields version inner
 unfolding phase_form phase_fields phase_times numbers_at
-phase-by_fields complete d ms inner table is =
+phase-by_fields version d ms inner table is =
     rw (← table, ← is)
-    (pairs-phase (number_at (codes "least") inner) (number_at (codes "greatest") inner) (number_at (codes "yellow") inner) (number_at (codes "clear") inner) (number_at (codes "loss") inner) (number_at (codes "wait") inner) (flag_at complete (codes "skip") inner) (list_at (codes "links") inner)
+    (pairs-phase (number_at (codes "least") inner) (number_at (codes "greatest") inner) (number_at (codes "yellow") inner) (number_at (codes "clear") inner) (number_at (codes "loss") inner) (number_at (codes "wait") inner) (flag_at (is_some version) (codes "skip") inner) (list_at (codes "links") inner) (optional_list_at (codes "also") inner)
     (λ least greatest yellow clear loss wait skip. let phase : Phase = record { least = least; greatest = greatest; yellow = yellow; clear = clear; loss = loss; wait = wait; skip = skip } in phase)
-    (λ phase links. let form : PhaseForm = record { phase = phase; links = links } in form))
+    (λ phase links also. let form : PhaseForm = record { phase = phase; links = links; also = also } in form))
 
 -- the own form of a link, in such a table
-pub link-by_fields : (complete : Bool) (d : Data) (ms inner : Members) → Some ms ≡ as_table d → Some inner ≡ only link_keys ms → link_form complete d ≡ link_fields complete inner
+pub link-by_fields : (version : Option ℕ) (d : Data) (ms inner : Members) → Some ms ≡ as_table d → Some inner ≡ only (link_keys_in version) ms → link_form version d ≡ link_fields version inner
 unfolding link_form link_fields link_numbers link_ends numbers_at
-link-by_fields complete d ms inner table is =
+link-by_fields version d ms inner table is =
     rw (← table, ← is)
-    (pairs-link (text_at (codes "name") inner) (number_at (codes "travel") inner) (number_at (codes "sat") inner) (weight_at complete (codes "weight") inner) (optional_text_at (codes "from") inner) (optional_text_at (codes "to") inner) (optional_list_at (codes "turn") inner)
-    (λ name travel sat weight from to turns. let form : LinkForm = record { name = name; from = from; to = to; travel = travel; sat = sat; weight = weight; turns = turns } in form))
+    (pairs-link (text_at (codes "name") inner) (number_at (codes "travel") inner) (number_at (codes "sat") inner) (weight_at (is_some version) (codes "weight") inner) (optional_text_at (codes "from") inner) (optional_text_at (codes "to") inner) (yields_at inner) (walk_at inner) (optional_list_at (codes "turn") inner)
+    (λ name travel sat weight from to yields walk turns. let form : LinkForm = record { name = name; from = from; to = to; travel = travel; sat = sat; weight = weight; yields = yields; walk = walk; turns = turns } in form))
+
+-- the keys of a phase and of a link, in a file of version 3 and in each other
+pub phase-third : (version : Option ℕ) → has_overlaps version ≡ true → phase_keys_in version ≡ codes "also" ∷ codes "least" ∷ codes "greatest" ∷ codes "yellow" ∷ codes "clear" ∷ codes "loss" ∷ codes "wait" ∷ codes "links" ∷ codes "skip" ∷ []
+unfolding phase_keys_in phase_keys
+phase-third version is = rw is refl
+
+pub phase-other : (version : Option ℕ) → has_overlaps version ≡ false → phase_keys_in version ≡ codes "least" ∷ codes "greatest" ∷ codes "yellow" ∷ codes "clear" ∷ codes "loss" ∷ codes "wait" ∷ codes "links" ∷ codes "skip" ∷ []
+unfolding phase_keys_in phase_keys
+phase-other version is = rw is refl
+
+pub link-third : (version : Option ℕ) → has_overlaps version ≡ true → link_keys_in version ≡ codes "yields" ∷ codes "yield_sat" ∷ codes "walk" ∷ codes "cross" ∷ codes "name" ∷ codes "from" ∷ codes "to" ∷ codes "travel" ∷ codes "sat" ∷ codes "weight" ∷ codes "turn" ∷ []
+unfolding link_keys_in link_keys
+link-third version is = rw is refl
+
+pub link-other : (version : Option ℕ) → has_overlaps version ≡ false → link_keys_in version ≡ codes "name" ∷ codes "from" ∷ codes "to" ∷ codes "travel" ∷ codes "sat" ∷ codes "weight" ∷ codes "turn" ∷ []
+unfolding link_keys_in link_keys
+link-other version is = rw is refl

@@ -1,9 +1,9 @@
 -- The keys of a table in the groups in which the reader takes them. No public clause names these words.
-use Rattle.std.specs.Prelude.{codes, ℕ, Bool, false, List, Option, Some}
+use Rattle.std.specs.Prelude.{codes, ℕ, false, List, Option, Some, is_some}
 use Rattle.toml.specs.Data.{Members}
 use Rattle.foundation.specs.Options.{◌>>=◌}
 use Rattle.phase_plan.specs.declared.Phase.{Phase}
-use Rattle.net_tables.specs.Table.{PhaseForm, LinkForm, number_at, optional_number_at, flag_at, weight_at, text_at, optional_text_at, list_at, optional_list_at}
+use Rattle.net_tables.specs.Table.{PhaseForm, LinkForm, number_at, optional_number_at, flag_at, weight_at, text_at, optional_text_at, list_at, optional_list_at, yields_at, walk_at}
 use Rattle.net_parts.specs.declared.drafts.Run.{Run}
 
 -- the whole numbers at two keys
@@ -32,26 +32,27 @@ run_fields ms = do
   Some (record { step = ahead.0; look = ahead.1; gap = course.0; rounds = course.1; split = split; age = limits.0; hold = limits.1; recall = further.0; act_step = further.1; rate = rate })
 
 -- the times and the mark of a phase
-unfoldable pub phase_times : Bool → Members → Option Phase
-phase_times complete ms = do
+unfoldable pub phase_times : Option ℕ → Members → Option Phase
+phase_times version ms = do
   green ← numbers_at (codes "least") (codes "greatest") ms
   change ← numbers_at (codes "yellow") (codes "clear") ms
   cost ← numbers_at (codes "loss") (codes "wait") ms
-  skip ← flag_at complete (codes "skip") ms
+  skip ← flag_at (is_some version) (codes "skip") ms
   Some (record { least = green.0; greatest = green.1; yellow = change.0; clear = change.1; loss = cost.0; wait = cost.1; skip = skip })
 
 -- what a phase has at its keys
-unfoldable pub phase_fields : Bool → Members → Option PhaseForm
-phase_fields complete ms = do
-  phase ← phase_times complete ms
+unfoldable pub phase_fields : Option ℕ → Members → Option PhaseForm
+phase_fields version ms = do
+  phase ← phase_times version ms
   links ← list_at (codes "links") ms
-  Some (record { phase = phase; links = links })
+  also ← optional_list_at (codes "also") ms
+  Some (record { phase = phase; links = links; also = also })
 
 -- the numbers of a link
-unfoldable pub link_numbers : Bool → Members → Option (ℕ × ℕ × ℕ)
-link_numbers complete ms = do
+unfoldable pub link_numbers : Option ℕ → Members → Option (ℕ × ℕ × ℕ)
+link_numbers version ms = do
   flow ← numbers_at (codes "travel") (codes "sat") ms
-  weight ← weight_at complete (codes "weight") ms
+  weight ← weight_at (is_some version) (codes "weight") ms
   Some (flow.0, flow.1, weight)
 
 -- the names of the nodes that a link comes from and ends at
@@ -62,10 +63,12 @@ link_ends ms = do
   Some (from, to)
 
 -- what a link has at its keys
-unfoldable pub link_fields : Bool → Members → Option LinkForm
-link_fields complete ms = do
+unfoldable pub link_fields : Option ℕ → Members → Option LinkForm
+link_fields version ms = do
   name ← text_at (codes "name") ms
-  numbers ← link_numbers complete ms
+  numbers ← link_numbers version ms
   ends ← link_ends ms
+  yields ← yields_at ms
+  walk ← walk_at ms
   turns ← optional_list_at (codes "turn") ms
-  Some (record { name = name; from = ends.0; to = ends.1; travel = numbers.0; sat = numbers.1; weight = numbers.2; turns = turns })
+  Some (record { name = name; from = ends.0; to = ends.1; travel = numbers.0; sat = numbers.1; weight = numbers.2; yields = yields; walk = walk; turns = turns })

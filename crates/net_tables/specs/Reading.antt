@@ -1,5 +1,5 @@
 -- The course of the reader: which element of an array is at fault, and at which place. No public clause names these words.
-use Rattle.std.specs.Prelude.{◌≡◌, ℕ, Bool, List, Option, None, IsSome}
+use Rattle.std.specs.Prelude.{◌≡◌, ℕ, List, Option, None, IsSome}
 use Rattle.toml.specs.Data.{Data}
 use Rattle.foundation.specs.Firsts.{IsFirstAt}
 use Rattle.net_tables.specs.FirstShape.{ordinal, IsNodeFault, IsLinkFault}
@@ -14,21 +14,21 @@ pub record IsFaultAmong {Y : Type 0} (f : Data → Option Y) (at_fault : ℕ →
   pub first : IsFirstAt (λ d. IsSome (f d)) (λ d. at_fault item (ordinal index) d named) ds index
 
 -- the node with this number is at fault, or one of its phases
-abbrev pub IsNodeAtFault : Bool → ℕ → ℕ → Data → Place → Type 0
-IsNodeAtFault complete item number d named = (named.item ≡ number) × IsNodeFault complete d named.part named.sub
+abbrev pub IsNodeAtFault : Option ℕ → ℕ → ℕ → Data → Place → Type 0
+IsNodeAtFault version item number d named = (named.item ≡ number) × IsNodeFault version d named.part named.sub
 
 -- the link with this number, or one of its turns
-abbrev pub IsLinkAtFault : Bool → ℕ → ℕ → Data → Place → Type 0
-IsLinkAtFault complete item number d named = (named.item ≡ number) × IsLinkFault complete d named.part named.sub
+abbrev pub IsLinkAtFault : Option ℕ → ℕ → ℕ → Data → Place → Type 0
+IsLinkAtFault version item number d named = (named.item ≡ number) × IsLinkFault version d named.part named.sub
 
 -- the phase with this number, of the node with this item
-abbrev pub IsPhaseAtFault : Bool → ℕ → ℕ → Data → Place → Type 0
-IsPhaseAtFault complete item number d named = (named ≡ record { part = Phase; item = item; sub = number }) × (phase_of complete d ≡ None)
+abbrev pub IsPhaseAtFault : Option ℕ → ℕ → ℕ → Data → Place → Type 0
+IsPhaseAtFault version item number d named = (named ≡ record { part = Phase; item = item; sub = number }) × (phase_of version d ≡ None)
 
 -- the turn with this number, of the link with this item
-abbrev pub IsTurnAtFault : Bool → ℕ → ℕ → Data → Place → Type 0
-IsTurnAtFault complete item number d named = (named ≡ record { part = Turn; item = item; sub = number }) × (turn_of d ≡ None)
+abbrev pub IsTurnAtFault : Option ℕ → ℕ → ℕ → Data → Place → Type 0
+IsTurnAtFault version item number d named = (named ≡ record { part = Turn; item = item; sub = number }) × (turn_of d ≡ None)
 
 -- the conflict with this number
-abbrev pub IsConflictAtFault : Bool → ℕ → ℕ → Data → Place → Type 0
-IsConflictAtFault complete item number d named = (named ≡ record { part = Conflict; item = number; sub = 0 }) × (conflict_of d ≡ None)
+abbrev pub IsConflictAtFault : Option ℕ → ℕ → ℕ → Data → Place → Type 0
+IsConflictAtFault version item number d named = (named ≡ record { part = Conflict; item = number; sub = 0 }) × (conflict_of d ≡ None)

@@ -1,5 +1,5 @@
 -- What a network file says: its table, as `toml` reads it, and the draft that it stands for.
-use Rattle.std.specs.Prelude.{◌≡◌, codes, ℕ, ◌-◌, ◌^◌, nat_lt, ℤ, pos, negsuc, Bool, true, false, ◌&&◌, if◌then◌else◌, List, [], ◌∷◌, Option, Some, None, is_some, IfSome}
+use Rattle.std.specs.Prelude.{codes, ℕ, ◌-◌, ◌^◌, ◌≤◌, ◌==◌, nat_lt, ℤ, pos, negsuc, Bool, true, false, ◌&&◌, if◌then◌else◌, List, [], ◌∷◌, Option, Some, None, is_some, option_map, IfSome}
 use Rattle.std.specs.List.{list_any}
 use Rattle.std.specs.Str.{bytes_eq}
 use Rattle.toml.specs.Data.{Data, Items, no_items, item, Members, no_members, member, get_member, as_str, as_integer, as_bool, as_array, as_table}
@@ -11,7 +11,9 @@ use Rattle.net_parts.specs.declared.drafts.DraftNode.{DraftNode}
 use Rattle.net_parts.specs.declared.drafts.DraftPhase.{DraftPhase}
 use Rattle.net_parts.specs.declared.drafts.DraftLink.{DraftLink}
 use Rattle.net_parts.specs.declared.drafts.DraftTurn.{DraftTurn}
+use Rattle.net_parts.specs.declared.drafts.DraftYield.{DraftYield}
 use Rattle.net_parts.specs.declared.drafts.DraftConflict.{DraftConflict}
+use Rattle.net_parts.specs.declared.roads.Walk.{Walk}
 
 -- a whole number of the file; one that is no u32 stands as the greatest u32, which is out of every bound
 abbrev pub field_of : ℤ → ℕ
@@ -111,6 +113,17 @@ list_if (Some d) = do
 unfoldable pub optional_list_at : List ℕ → Members → Option (List Data)
 optional_list_at key ms = list_if (get_member key ms)
 
+-- an array that may be absent
+abbrev pub array_if : Option Data → Option (Option (List Data))
+array_if None = Some None
+array_if (Some d) = do
+  ds ← as_array d
+  Some (Some (list_of ds))
+
+-- the elements of the array at a key that may be absent, where it is there
+unfoldable pub array_at : List ℕ → Members → Option (Option (List Data))
+array_at key ms = array_if (get_member key ms)
+
 -- the keys of a run
 unfoldable pub run_keys : List (List ℕ)
 run_keys = codes "step" ∷ codes "look" ∷ codes "gap" ∷ codes "rounds" ∷ codes "split" ∷ codes "age" ∷ codes "hold" ∷ codes "recall" ∷ codes "act_step" ∷ codes "rate" ∷ []
@@ -132,36 +145,48 @@ run_of ms = do
   rate ← optional_number_at (codes "rate") ms
   Some (record { step = step; look = look; gap = gap; rounds = rounds; split = split; age = age; hold = hold; recall = recall; act_step = act_step; rate = rate })
 
--- the keys of a phase
+-- whether a file of this version may name further greens of phases, yields and walks: it says version 3
+abbrev pub has_overlaps : Option ℕ → Bool
+has_overlaps None = false
+has_overlaps (Some version) = version == 3
+
+-- the keys that a phase has in every file
 unfoldable pub phase_keys : List (List ℕ)
 phase_keys = codes "least" ∷ codes "greatest" ∷ codes "yellow" ∷ codes "clear" ∷ codes "loss" ∷ codes "wait" ∷ codes "links" ∷ codes "skip" ∷ []
+
+-- the keys of a phase in a file of this version
+unfoldable pub phase_keys_in : Option ℕ → List (List ℕ)
+phase_keys_in version = if has_overlaps version then codes "also" ∷ phase_keys else phase_keys
 
 -- a phase as it stands in the file, the names of its links not yet read
 pub record PhaseForm : Type 0 where
   pub phase : Phase
   pub links : List Data
+  pub also : List Data
 
--- the own form of a phase, in a file that must be complete or need not
-unfoldable pub phase_form : Bool → Data → Option PhaseForm
-phase_form complete d = do
+-- the own form of a phase, in a file of this version; one that says its version must be complete, here and below
+unfoldable pub phase_form : Option ℕ → Data → Option PhaseForm
+phase_form version d = do
   ms ← as_table d
-  ms ← only phase_keys ms
+  ms ← only (phase_keys_in version) ms
   least ← number_at (codes "least") ms
   greatest ← number_at (codes "greatest") ms
   yellow ← number_at (codes "yellow") ms
   clear ← number_at (codes "clear") ms
   loss ← number_at (codes "loss") ms
   wait ← number_at (codes "wait") ms
-  skip ← flag_at complete (codes "skip") ms
+  skip ← flag_at (is_some version) (codes "skip") ms
   links ← list_at (codes "links") ms
-  Some (record { phase = record { least = least; greatest = greatest; yellow = yellow; clear = clear; loss = loss; wait = wait; skip = skip }; links = links })
+  also ← optional_list_at (codes "also") ms
+  Some (record { phase = record { least = least; greatest = greatest; yellow = yellow; clear = clear; loss = loss; wait = wait; skip = skip }; links = links; also = also })
 
 -- a phase with the names of its links
-unfoldable pub phase_of : Bool → Data → Option DraftPhase
-phase_of complete d = do
-  form ← phase_form complete d
+unfoldable pub phase_of : Option ℕ → Data → Option DraftPhase
+phase_of version d = do
+  form ← phase_form version d
   links ← each as_str form.links
-  Some (record { phase = form.phase; links = links; also = [] })
+  also ← each as_str form.also
+  Some (record { phase = form.phase; links = links; also = also })
 
 -- a node as it stands in the file, its phases not yet read
 pub record NodeForm : Type 0 where
@@ -178,10 +203,10 @@ node_form d = do
   Some (record { name = name; phases = phases })
 
 -- a node with its phases
-unfoldable pub node_of : Bool → Data → Option DraftNode
-node_of complete d = do
+unfoldable pub node_of : Option ℕ → Data → Option DraftNode
+node_of version d = do
   node ← node_form d
-  phases ← each (phase_of complete) node.phases
+  phases ← each (phase_of version) node.phases
   Some (record { name = node.name; phases = phases })
 
 -- a turn
@@ -201,32 +226,75 @@ pub record LinkForm : Type 0 where
   pub travel : ℕ
   pub sat : ℕ
   pub weight : ℕ
+  pub yields : Option (List Data × ℕ)
+  pub walk : Option Walk
   pub turns : List Data
 
--- the keys of a link
+-- what stands at two keys of which a table has both or neither
+abbrev pub both_or_neither : {X Y : Type 0} → Option X → Option Y → Option (Option (X × Y))
+both_or_neither None None = Some None
+both_or_neither (Some x) (Some y) = Some (Some (x, y))
+both_or_neither _ _ = None
+
+-- the links to which a link gives way, their names not yet read, and its discharge then
+unfoldable pub yields_at : Members → Option (Option (List Data × ℕ))
+yields_at ms = do
+  links ← array_at (codes "yields") ms
+  sat ← optional_number_at (codes "yield_sat") ms
+  both_or_neither links sat
+
+-- the walk of a link
+unfoldable pub walk_at : Members → Option (Option Walk)
+walk_at ms = do
+  seconds ← optional_number_at (codes "walk") ms
+  cross ← optional_number_at (codes "cross") ms
+  walk ← both_or_neither seconds cross
+  Some (option_map (λ w. record { seconds = w.0; cross = w.1 }) walk)
+
+-- the keys that a link has in every file
 unfoldable pub link_keys : List (List ℕ)
 link_keys = codes "name" ∷ codes "from" ∷ codes "to" ∷ codes "travel" ∷ codes "sat" ∷ codes "weight" ∷ codes "turn" ∷ []
 
--- the own form of a link, in such a file
-unfoldable pub link_form : Bool → Data → Option LinkForm
-link_form complete d = do
+-- the keys of a link in a file of this version
+unfoldable pub link_keys_in : Option ℕ → List (List ℕ)
+link_keys_in version = if has_overlaps version then codes "yields" ∷ codes "yield_sat" ∷ codes "walk" ∷ codes "cross" ∷ link_keys else link_keys
+
+-- the own form of a link, in a file of this version
+unfoldable pub link_form : Option ℕ → Data → Option LinkForm
+link_form version d = do
   ms ← as_table d
-  ms ← only link_keys ms
+  ms ← only (link_keys_in version) ms
   name ← text_at (codes "name") ms
   travel ← number_at (codes "travel") ms
   sat ← number_at (codes "sat") ms
-  weight ← weight_at complete (codes "weight") ms
+  weight ← weight_at (is_some version) (codes "weight") ms
   from ← optional_text_at (codes "from") ms
   to ← optional_text_at (codes "to") ms
+  yields ← yields_at ms
+  walk ← walk_at ms
   turns ← optional_list_at (codes "turn") ms
-  Some (record { name = name; from = from; to = to; travel = travel; sat = sat; weight = weight; turns = turns })
+  Some (record { name = name; from = from; to = to; travel = travel; sat = sat; weight = weight; yields = yields; walk = walk; turns = turns })
+
+-- the links to which a link gives way, by their names
+abbrev pub yield_of : Option (List Data × ℕ) → Option (Option DraftYield)
+yield_of None = Some None
+yield_of (Some given) = do
+  links ← each as_str given.0
+  Some (Some (record { links = links; sat = given.1 }))
+
+-- a link with the names of those to which it gives way, its turns not yet read
+unfoldable pub link_own : Option ℕ → Data → Option (LinkForm × Option DraftYield)
+link_own version d = do
+  link ← link_form version d
+  yields ← yield_of link.yields
+  Some (link, yields)
 
 -- a link with its turns
-unfoldable pub link_of : Bool → Data → Option DraftLink
-link_of complete d = do
-  link ← link_form complete d
-  turns ← each turn_of link.turns
-  Some (record { name = link.name; from = link.from; to = link.to; travel = link.travel; sat = link.sat; weight = link.weight; yields = None; walk = None; turns = turns })
+unfoldable pub link_of : Option ℕ → Data → Option DraftLink
+link_of version d = do
+  own ← link_own version d
+  turns ← each turn_of own.0.turns
+  Some (record { name = own.0.name; from = own.0.from; to = own.0.to; travel = own.0.travel; sat = own.0.sat; weight = own.0.weight; yields = own.1; walk = own.0.walk; turns = turns })
 
 -- a conflict
 unfoldable pub conflict_of : Data → Option DraftConflict
@@ -245,10 +313,6 @@ pub record TopForm : Type 0 where
   pub links : List Data
   pub conflicts : List Data
 
--- a file that says its version must be complete
-abbrev pub is_complete : TopForm → Bool
-is_complete top = is_some top.version
-
 -- the own form of the whole file
 unfoldable pub top_form : Members → Option TopForm
 top_form ms = do
@@ -265,15 +329,15 @@ unfoldable pub draft_of : Members → Option Draft
 draft_of ms = do
   top ← top_form ms
   run ← run_of top.run
-  nodes ← each (node_of (is_complete top)) top.nodes
-  links ← each (link_of (is_complete top)) top.links
+  nodes ← each (node_of top.version) top.nodes
+  links ← each (link_of top.version) top.links
   conflicts ← each conflict_of top.conflicts
   Some (record { run = run; nodes = nodes; links = links; conflicts = conflicts })
 
--- the file has no version, or it is 2
+-- the file has no version, or it is 2 or 3
 abbrev pub IsKnown : Option ℕ → Type 0
 IsKnown None = Unit {0}
-IsKnown (Some version) = version ≡ 2
+IsKnown (Some version) = (2 ≤ version) × (version ≤ 3)
 
 -- the version of the file, where it has one, is known
 abbrev pub HasKnownVersion : Members → Type 0

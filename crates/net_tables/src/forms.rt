@@ -3,14 +3,15 @@
 ghost use Rattle.std.specs.Prelude.{◌≡◌, MatchOption, option_map, option_copied, map};
 ghost use Rattle.toml.specs.Data.{as_table};
 ghost use Rattle.toml.specs.View.{view, table_view};
+ghost use Rattle.net_tables.specs.Forms.{raw_yields};
 ghost use Rattle.net_tables.specs.Parts as parts;
 ghost use Rattle.net_tables.specs.Table as spec;
 
 use crate::values::{
-    flag_at, list_at, number_at, numbers_at, only, optional_list_at, optional_number_at,
+    array_at, flag_at, list_at, number_at, numbers_at, only, optional_list_at, optional_number_at,
     optional_numbers_at, optional_text_at, table_at, text_at, weight_at,
 };
-use net_parts::Run;
+use net_parts::{Run, Walk};
 use phase_plan::Phase;
 use toml::{Table, Value};
 
@@ -103,38 +104,53 @@ pub(crate) fn node_form(value: &Value) -> Option<(&str, &[Value])>
     Some((name, phases))
 }
 
-/// The own form of a phase: its times and mark, and the names of its links. In a file that must be complete the mark is
-/// there.
+/// A phase.
+#[derive(Drop)]
+pub(crate) struct PhaseForm<'a> {
+    pub(crate) phase: Phase,
+    pub(crate) links: &'a [Value],
+    pub(crate) also: &'a [Value],
+}
+
+/// The own form of a phase in a file of this version: its times and mark, and the names of its links. In a file that says its
+/// version the mark is there.
 #[tactic(auto, unfolding(crate::specs::Table::phase_form))]
-pub(crate) fn phase_form(value: &Value, complete: bool) -> Option<(Phase, &[Value])>
-    ensures { MatchOption result (spec.phase_form complete (view value.now) ≡ None)
-        (λ form. spec.phase_form complete (view value.now)
-        ≡ Some (record { phase = form.0; links = map view form.1.now })) }
+pub(crate) fn phase_form(value: &Value, version: Option<u32>) -> Option<PhaseForm>
+    ensures { MatchOption result (spec.phase_form version (view value.now) ≡ None)
+        (λ form. spec.phase_form version (view value.now) ≡ Some (record {
+          phase = form.phase;
+          links = map view form.links.now;
+          also = map view form.also.now;
+        })) }
 {
-    phase_fields(only_phase_keys(value.as_table()?)?, complete)
+    phase_fields(only_phase_keys(value.as_table()?, version)?, version)
 }
 
 /// What a phase has at its keys.
 #[tactic(auto, unfolding(crate::specs::Parts::phase_fields))]
-fn phase_fields(table: &Table, complete: bool) -> Option<(Phase, &[Value])>
-    ensures { MatchOption result (parts.phase_fields complete (table_view table.now) ≡ None)
-        (λ form. parts.phase_fields complete (table_view table.now)
-        ≡ Some (record { phase = form.0; links = map view form.1.now })) }
+fn phase_fields(table: &Table, version: Option<u32>) -> Option<PhaseForm>
+    ensures { MatchOption result (parts.phase_fields version (table_view table.now) ≡ None)
+        (λ form. parts.phase_fields version (table_view table.now) ≡ Some (record {
+          phase = form.phase;
+          links = map view form.links.now;
+          also = map view form.also.now;
+        })) }
 {
-    let phase = phase_times(table, complete)?;
+    let phase = phase_times(table, version)?;
     let links = list_at(table, "links")?;
-    Some((phase, links))
+    let also = optional_list_at(table, "also")?;
+    Some(PhaseForm { phase, links, also })
 }
 
 /// The times and the mark of a phase.
 #[tactic(auto, unfolding(crate::specs::Parts::phase_times))]
-fn phase_times(table: &Table, complete: bool) -> Option<Phase>
-    ensures { result ≡ parts.phase_times complete (table_view table.now) }
+fn phase_times(table: &Table, version: Option<u32>) -> Option<Phase>
+    ensures { result ≡ parts.phase_times version (table_view table.now) }
 {
     let (least, greatest) = numbers_at(table, "least", "greatest")?;
     let (yellow, clear) = numbers_at(table, "yellow", "clear")?;
     let (loss, wait) = numbers_at(table, "loss", "wait")?;
-    let skip = flag_at(table, "skip", complete)?;
+    let skip = flag_at(table, "skip", version.is_some())?;
     Some(Phase {
         least,
         greatest,
@@ -146,15 +162,37 @@ fn phase_times(table: &Table, complete: bool) -> Option<Phase>
     })
 }
 
-/// The table, where it has no key beside those of a phase.
-#[tactic(auto, unfolding(crate::specs::Table::phase_keys))]
-fn only_phase_keys(table: &Table) -> Option<&Table>
-    ensures { option_map (λ table. table_view table.now) result ≡ spec.only spec.phase_keys (table_view table.now) }
+/// Whether a file of this version may name further greens of phases, yields and walks.
+fn has_overlaps(version: Option<u32>) -> bool
+    ensures { result ≡ spec.has_overlaps version }
+{
+    match version {
+        Some(version) => version == 3,
+        None => false,
+    }
+}
+
+/// The table, where it has no key beside those of a phase in a file of this version.
+#[tactic(auto, unfolding(crate::specs::Table::phase_keys_in, crate::specs::Table::phase_keys))]
+fn only_phase_keys(table: &Table, version: Option<u32>) -> Option<&Table>
+    ensures { option_map (λ table. table_view table.now) result
+        ≡ spec.only (spec.phase_keys_in version) (table_view table.now) }
 {
     let keys = [
-        "least", "greatest", "yellow", "clear", "loss", "wait", "links", "skip",
+        "also", "least", "greatest", "yellow", "clear", "loss", "wait", "links", "skip",
     ];
-    only(table, &keys)
+    if has_overlaps(version) {
+        only(table, &keys)
+    } else {
+        only(table, &keys[1..])
+    }
+}
+
+/// The links to which a link gives way, and its discharge then.
+#[derive(Drop, Clone, Copy)]
+pub(crate) struct YieldForm<'a> {
+    pub(crate) links: &'a [Value],
+    pub(crate) sat: u32,
 }
 
 /// A link.
@@ -166,43 +204,51 @@ pub(crate) struct LinkForm<'a> {
     pub(crate) travel: u32,
     pub(crate) sat: u32,
     pub(crate) weight: u32,
+    pub(crate) yields: Option<YieldForm<'a>>,
+    pub(crate) walk: Option<Walk>,
     pub(crate) turns: &'a [Value],
 }
 
-/// The own form of a link. In a file that must be complete its weight is there.
+/// The own form of a link in a file of this version. In a file that says its version the weight is there.
 #[tactic(auto, unfolding(crate::specs::Table::link_form))]
-pub(crate) fn link_form(value: &Value, complete: bool) -> Option<LinkForm>
-    ensures { MatchOption result (spec.link_form complete (view value.now) ≡ None)
-        (λ link. spec.link_form complete (view value.now) ≡ Some (record {
+pub(crate) fn link_form(value: &Value, version: Option<u32>) -> Option<LinkForm>
+    ensures { MatchOption result (spec.link_form version (view value.now) ≡ None)
+        (λ link. spec.link_form version (view value.now) ≡ Some (record {
           name = link.name.now;
           from = option_copied link.from;
           to = option_copied link.to;
           travel = link.travel;
           sat = link.sat;
           weight = link.weight;
+          yields = option_map raw_yields link.yields;
+          walk = link.walk;
           turns = map view link.turns.now;
         })) }
 {
-    link_fields(only_link_keys(value.as_table()?)?, complete)
+    link_fields(only_link_keys(value.as_table()?, version)?, version)
 }
 
 /// What a link has at its keys.
 #[tactic(auto, unfolding(crate::specs::Parts::link_fields))]
-fn link_fields(table: &Table, complete: bool) -> Option<LinkForm>
-    ensures { MatchOption result (parts.link_fields complete (table_view table.now) ≡ None)
-        (λ link. parts.link_fields complete (table_view table.now) ≡ Some (record {
+fn link_fields(table: &Table, version: Option<u32>) -> Option<LinkForm>
+    ensures { MatchOption result (parts.link_fields version (table_view table.now) ≡ None)
+        (λ link. parts.link_fields version (table_view table.now) ≡ Some (record {
           name = link.name.now;
           from = option_copied link.from;
           to = option_copied link.to;
           travel = link.travel;
           sat = link.sat;
           weight = link.weight;
+          yields = option_map raw_yields link.yields;
+          walk = link.walk;
           turns = map view link.turns.now;
         })) }
 {
     let name = text_at(table, "name")?;
-    let (travel, sat, weight) = link_numbers(table, complete)?;
+    let (travel, sat, weight) = link_numbers(table, version)?;
     let (from, to) = link_ends(table)?;
+    let yields = yields_at(table)?;
+    let walk = walk_at(table)?;
     let turns = optional_list_at(table, "turn")?;
     Some(LinkForm {
         name,
@@ -211,17 +257,19 @@ fn link_fields(table: &Table, complete: bool) -> Option<LinkForm>
         travel,
         sat,
         weight,
+        yields,
+        walk,
         turns,
     })
 }
 
 /// The travel time, the saturation and the weight of a link.
 #[tactic(auto, unfolding(crate::specs::Parts::link_numbers))]
-fn link_numbers(table: &Table, complete: bool) -> Option<(u32, u32, u32)>
-    ensures { result ≡ parts.link_numbers complete (table_view table.now) }
+fn link_numbers(table: &Table, version: Option<u32>) -> Option<(u32, u32, u32)>
+    ensures { result ≡ parts.link_numbers version (table_view table.now) }
 {
     let (travel, sat) = numbers_at(table, "travel", "sat")?;
-    let weight = weight_at(table, "weight", complete)?;
+    let weight = weight_at(table, "weight", version.is_some())?;
     Some((travel, sat, weight))
 }
 
@@ -236,13 +284,58 @@ fn link_ends(table: &Table) -> Option<(Option<&str>, Option<&str>)>
     Some((from, to))
 }
 
-/// The table, where it has no key beside those of a link.
-#[tactic(auto, unfolding(crate::specs::Table::link_keys))]
-fn only_link_keys(table: &Table) -> Option<&Table>
-    ensures { option_map (λ table. table_view table.now) result ≡ spec.only spec.link_keys (table_view table.now) }
+/// The links to which a link gives way, and its discharge then; both keys are there or neither.
+#[tactic(auto, unfolding(crate::specs::Table::yields_at))]
+fn yields_at(table: &Table) -> Option<Option<YieldForm>>
+    ensures { option_map (λ found. option_map raw_yields found) result ≡ spec.yields_at (table_view table.now) }
 {
-    let keys = ["name", "from", "to", "travel", "sat", "weight", "turn"];
-    only(table, &keys)
+    let links = array_at(table, "yields")?;
+    let sat = optional_number_at(table, "yield_sat")?;
+    match (links, sat) {
+        (Some(links), Some(sat)) => Some(Some(YieldForm { links, sat })),
+        (None, None) => Some(None),
+        _ => None,
+    }
+}
+
+/// The walk of a link; both keys are there or neither.
+#[tactic(auto, unfolding(crate::specs::Table::walk_at))]
+fn walk_at(table: &Table) -> Option<Option<Walk>>
+    ensures { result ≡ spec.walk_at (table_view table.now) }
+{
+    let seconds = optional_number_at(table, "walk")?;
+    let cross = optional_number_at(table, "cross")?;
+    match (seconds, cross) {
+        (Some(seconds), Some(cross)) => Some(Some(Walk { seconds, cross })),
+        (None, None) => Some(None),
+        _ => None,
+    }
+}
+
+/// The table, where it has no key beside those of a link in a file of this version.
+#[tactic(auto, unfolding(crate::specs::Table::link_keys_in, crate::specs::Table::link_keys))]
+fn only_link_keys(table: &Table, version: Option<u32>) -> Option<&Table>
+    ensures { option_map (λ table. table_view table.now) result
+        ≡ spec.only (spec.link_keys_in version) (table_view table.now) }
+{
+    let keys = [
+        "yields",
+        "yield_sat",
+        "walk",
+        "cross",
+        "name",
+        "from",
+        "to",
+        "travel",
+        "sat",
+        "weight",
+        "turn",
+    ];
+    if has_overlaps(version) {
+        only(table, &keys)
+    } else {
+        only(table, &keys[4..])
+    }
 }
 
 /// The own form of a turn: the name of its exit, and its share.

@@ -1,20 +1,24 @@
 //! How the draft is read from the table of a network file.
-ghost use Rattle.std.specs.Prelude.{◌≡◌, ◌↔◌, ℕ, Bool, IsTrue, Option, option_map, option_copied, IfOk, IfErr, map};
+ghost use Rattle.std.specs.Prelude.{◌≡◌, ◌↔◌, ℕ, IsTrue, Option, option_map, option_copied, IfOk, IfErr, map};
 ghost use Rattle.toml.specs.Data.{Data, as_str};
 ghost use Rattle.toml.specs.View.{view, table_view};
 ghost use Rattle.foundation.specs.Options.{each};
 ghost use Rattle.net_parts.specs.declared.faults.Place.{Place};
 ghost use Rattle.net_tables.specs.Faults.{Misses, Blames};
+ghost use Rattle.net_tables.specs.Forms.{raw_yields};
 ghost use Rattle.net_tables.specs.FirstShape.{IsShapeFault, ordinal};
 ghost use Rattle.net_tables.specs.Reading.{IsFaultAmong, IsNodeAtFault, IsPhaseAtFault, IsLinkAtFault, IsTurnAtFault, IsConflictAtFault};
 ghost use Rattle.net_tables.specs.Table as spec;
 ghost use Rattle.net_tables.specs.Table.{HasKnownVersion};
 
-use crate::forms::{conflict_form, link_form, node_form, phase_form, run_of, top_form, turn_form};
+use crate::forms::{
+    YieldForm, conflict_form, link_form, node_form, phase_form, run_of, top_form, turn_form,
+};
 use foundation::items::Items;
 use foundation::text::Text;
 use net_parts::{
-    Draft, DraftConflict, DraftLink, DraftNode, DraftPhase, DraftTurn, NetFault, Place, Section,
+    Draft, DraftConflict, DraftLink, DraftNode, DraftPhase, DraftTurn, DraftYield, NetFault, Place,
+    Section,
 };
 use std::alloc::{AllocError, Global};
 use toml::{Table, Value};
@@ -37,10 +41,9 @@ pub fn read_draft(alloc: Global, table: &Table) -> Result<Draft, NetFault>
     let Some(run) = run_of(top.run) else {
         return Err(shape(Section::Run, 0, 0));
     };
-    let complete = top.version.is_some();
-    let nodes = read_all(alloc, top.nodes, 0, complete)?;
-    let links = read_all(alloc, top.links, 0, complete)?;
-    let conflicts = read_all(alloc, top.conflicts, 0, complete)?;
+    let nodes = read_all(alloc, top.nodes, 0, top.version)?;
+    let links = read_all(alloc, top.links, 0, top.version)?;
+    let conflicts = read_all(alloc, top.conflicts, 0, top.version)?;
     Ok(Draft {
         run,
         nodes: Items::from_vec(nodes),
@@ -49,9 +52,6 @@ pub fn read_draft(alloc: Global, table: &Table) -> Result<Draft, NetFault>
     })
 }
 
-/// The one version that a network file may say.
-const KNOWN_VERSION: u32 = 2;
-
 /// Whether the table of a network file has no version, or one that is known. One whose own form is at fault has none.
 ///
 /// docs/FORMATS.md, "Network file".
@@ -59,7 +59,7 @@ pub fn has_known_version(table: &Table) -> bool
     ensures { IsTrue result ↔ HasKnownVersion (table_view table.now) }
 {
     match top_form(table) {
-        Some(top) => top.version.is_none_or(|version| version == KNOWN_VERSION),
+        Some(top) => top.version.is_none_or(|version| (2..=3).contains(&version)),
         None => true,
     }
 }
@@ -78,24 +78,24 @@ struct Spot {
     item: u32,
     /// The number of the table in the array, from 1.
     number: u32,
-    /// Whether the file must be complete.
-    complete: bool,
+    /// The version that the file says.
+    version: Option<u32>,
 }
 
 /// A table that stands in an array of the file.
 trait Element: Sized + Drop {
-    /// What the table stands for, in a file that must be complete or need not.
-    ghost reading: { Bool → Data → Option Self };
+    /// What the table stands for, in a file of this version.
+    ghost reading: { Option ℕ → Data → Option Self };
 
     /// Where the table that is not read is at fault, in such a file: in the table of an item, with its number, at a
     /// place.
-    ghost at_fault: { Bool → ℕ → ℕ → Data → Place → Type 0 };
+    ghost at_fault: { Option ℕ → ℕ → ℕ → Data → Place → Type 0 };
 
     /// Reads a table.
     fn read(alloc: Global, value: &Value, spot: Spot) -> Result<Self, NetFault>
-        ensures ok { IfOk result (λ element. reading spot.complete (view value.now) ≡ Some element) }
+        ensures ok { IfOk result (λ element. reading spot.version (view value.now) ≡ Some element) }
         ensures first { IfErr result (λ fault. Blames fault
-            (at_fault spot.complete spot.item spot.number (view value.now))) };
+            (at_fault spot.version spot.item spot.number (view value.now))) };
 }
 
 /// The elements of an array, in order, in the table of this item.
@@ -103,18 +103,18 @@ fn read_all<T: Element>(
     alloc: Global,
     values: &[Value],
     item: u32,
-    complete: bool,
+    version: Option<u32>,
 ) -> Result<Vec<T>, NetFault>
-    ensures ok { IfOk result (λ all. each (T.reading complete) (map view values.now) ≡ Some all.items) }
+    ensures ok { IfOk result (λ all. each (T.reading version) (map view values.now) ≡ Some all.items) }
     ensures first { IfErr result (λ fault. Blames fault
-        (IsFaultAmong (T.reading complete) (T.at_fault complete) item (map view values.now))) }
+        (IsFaultAmong (T.reading version) (T.at_fault version) item (map view values.now))) }
 {
     let mut all = Vec::new(alloc);
     for (index, value) in values.iter().enumerate() {
         let spot = Spot {
             item,
             number: ordinal(index),
-            complete,
+            version,
         };
         let element = T::read(alloc, value, spot)?;
         all.push(element)?;
@@ -139,7 +139,7 @@ impl Element for DraftNode {
         let Some((name, phases)) = node_form(value) else {
             return Err(shape(Section::Node, spot.number, 0));
         };
-        let phases = read_all(alloc, phases, spot.number, spot.complete)?;
+        let phases = read_all(alloc, phases, spot.number, spot.version)?;
         let name = copy_text(alloc, name)?;
         Ok(DraftNode {
             name,
@@ -155,16 +155,19 @@ impl Element for DraftPhase {
 
     #[tactic(auto, unfolding(crate::specs::Table::phase_of))]
     fn read(alloc: Global, value: &Value, spot: Spot) -> Result<DraftPhase, NetFault> {
-        let Some((phase, links)) = phase_form(value, spot.complete) else {
+        let Some(form) = phase_form(value, spot.version) else {
             return Err(shape(Section::Phase, spot.item, spot.number));
         };
-        let Some(links) = texts_of(alloc, links)? else {
+        let Some(links) = texts_of(alloc, form.links)? else {
+            return Err(shape(Section::Phase, spot.item, spot.number));
+        };
+        let Some(also) = texts_of(alloc, form.also)? else {
             return Err(shape(Section::Phase, spot.item, spot.number));
         };
         Ok(DraftPhase {
-            phase,
+            phase: form.phase,
             links: Items::from_vec(links),
-            also: Items::from_vec(Vec::new(alloc)),
+            also: Items::from_vec(also),
         })
     }
 }
@@ -174,12 +177,15 @@ impl Element for DraftLink {
 
     ghost at_fault = { IsLinkAtFault };
 
-    #[tactic(auto, unfolding(crate::specs::Table::link_of))]
+    #[tactic(auto, unfolding(crate::specs::Table::link_of, crate::specs::Table::link_own))]
     fn read(alloc: Global, value: &Value, spot: Spot) -> Result<DraftLink, NetFault> {
-        let Some(link) = link_form(value, spot.complete) else {
+        let Some(link) = link_form(value, spot.version) else {
             return Err(shape(Section::Link, spot.number, 0));
         };
-        let turns = read_all(alloc, link.turns, spot.number, spot.complete)?;
+        let Some(yields) = yields_of(alloc, link.yields)? else {
+            return Err(shape(Section::Link, spot.number, 0));
+        };
+        let turns = read_all(alloc, link.turns, spot.number, spot.version)?;
         Ok(DraftLink {
             name: copy_text(alloc, link.name)?,
             from: copy_optional_text(alloc, link.from)?,
@@ -187,8 +193,8 @@ impl Element for DraftLink {
             travel: link.travel,
             sat: link.sat,
             weight: link.weight,
-            yields: None,
-            walk: None,
+            yields,
+            walk: link.walk,
             turns: Items::from_vec(turns),
         })
     }
@@ -221,6 +227,25 @@ impl Element for DraftConflict {
         let b = copy_text(alloc, b)?;
         Ok(DraftConflict { a, b })
     }
+}
+
+/// The names of the links to which a link gives way, where each is a text, and its discharge then.
+fn yields_of(
+    alloc: Global,
+    given: Option<YieldForm>,
+) -> Result<Option<Option<DraftYield>>, AllocError>
+    ensures { IfOk result (λ yields. yields ≡ spec.yield_of (option_map raw_yields given.entry)) }
+{
+    let Some(given) = given else {
+        return Ok(Some(None));
+    };
+    let Some(links) = texts_of(alloc, given.links)? else {
+        return Ok(None);
+    };
+    Ok(Some(Some(DraftYield {
+        links: Items::from_vec(links),
+        sat: given.sat,
+    })))
 }
 
 /// The texts of an array, in order, where each element is one.

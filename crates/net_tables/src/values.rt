@@ -149,6 +149,18 @@ pub(crate) fn optional_list_at<'a>(table: &'a Table, key: &str) -> Option<&'a [V
     }
 }
 
+/// The elements of the array at a key that may be absent, where it is there.
+#[tactic(auto, unfolding(crate::specs::Table::array_at))]
+pub(crate) fn array_at<'a>(table: &'a Table, key: &str) -> Option<Option<&'a [Value]>>
+    ensures { option_map (λ found. option_map (λ values. map view values.now) found) result
+        ≡ spec.array_at key.now (table_view table.now) }
+{
+    match member(table, key) {
+        Some(value) => Some(Some(list_of(value)?)),
+        None => Some(None),
+    }
+}
+
 /// The table, where it has no key beside these.
 #[tactic(auto, unfolding(crate::specs::Table::only))]
 pub(crate) fn only<'a>(table: &'a Table, keys: &[&str]) -> Option<&'a Table>

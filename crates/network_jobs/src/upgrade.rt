@@ -9,7 +9,7 @@ use outside_world::{Shelf, Sink};
 use road_net::Network;
 use std::alloc::Global;
 
-// The network in a file, as a file of version 2.
+// The network in a file, as a file of the least version that can say it.
 fn make_network_text<S: Shelf>(alloc: Global, shelf: &mut S, net: &str) -> Result<Made, Refusal>
     ensures { Makes (Upgrade net.now) (S.state shelf.old) (S.state shelf.new) result }
 {
@@ -18,8 +18,8 @@ fn make_network_text<S: Shelf>(alloc: Global, shelf: &mut S, net: &str) -> Resul
     Ok(Made::Done(text))
 }
 
-/// The command `upgrade NET`: writes the network in the file as a file of version 2, which has every mark and weight. The same
-/// network is read from it.
+/// The command `upgrade NET`: writes the network in the file as a file of the least version that can say it, 2 or 3, which has every mark
+/// and weight. The same network is read from it.
 ///
 /// Each status has its cause, and each refusal writes its line to `err`, as `signal` says.
 ///

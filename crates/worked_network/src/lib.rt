@@ -1,9 +1,6 @@
 //! The worked network of docs/FORMATS.md for tests: its text, what enters it, and the network itself.
 #![tactic(auto)]
 
-ghost use Rattle.std.specs.Prelude.{IfOk};
-ghost use Rattle.net_parts.specs.Outline.{HasNoOverlaps};
-
 use net_file::read_network;
 use road_net::{NetFault, Network};
 use std::alloc::{AllocError, Global};
@@ -48,9 +45,7 @@ fn with_rounds(alloc: Global, rounds: u32) -> Result<String, AllocError> {
 }
 
 /// The network of a text, which has at most 10,000 bytes.
-pub fn network_of(alloc: Global, text: &str) -> Result<Network, NetFault>
-    ensures { IfOk result HasNoOverlaps }
-{
+pub fn network_of(alloc: Global, text: &str) -> Result<Network, NetFault> {
     if text.len() > 10_000 {
         return Err(NetFault::NoMemory);
     }
@@ -58,8 +53,6 @@ pub fn network_of(alloc: Global, text: &str) -> Result<Network, NetFault>
 }
 
 /// The network with this number of rounds.
-pub fn network(alloc: Global, rounds: u32) -> Result<Network, NetFault>
-    ensures { IfOk result HasNoOverlaps }
-{
+pub fn network(alloc: Global, rounds: u32) -> Result<Network, NetFault> {
     network_of(alloc, with_rounds(alloc, rounds)?.as_str())
 }

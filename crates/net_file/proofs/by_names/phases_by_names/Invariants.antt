@@ -5,4 +5,4 @@ use Rattle.net_file.proofs.by_names.phases_by_names.Given as goal
 
 -- the phases so far
 abbrev pub invariant-loop-k : goal.invariant-loop-k
-invariant-loop-k l = l.phases.items ≡ map (spec.phase_by_names l.names l.plan l.lists) (range_with_len 0 l.k)
+invariant-loop-k l = l.phases.items ≡ map (spec.phase_by_names l.names l.plan l.lists l.also) (range_with_len 0 l.k)

@@ -1,6 +1,6 @@
 use Rattle.std.proofs.lemmas.Result.{on_ok_weaker}
-use Rattle.net_file.proofs.ItemLaws.{if-any}
+use Rattle.net_file.proofs.ItemLaws.{if-any, not-empty}
 use Rattle.net_file.proofs.tables.put_tables_if_any.Goals as goal
 
 pub returns-else-is_empty : goal.returns-else-is_empty
-returns-else-is_empty g c = on_ok_weaker c.put_tables.result if-any c.put_tables.ensures
+returns-else-is_empty g c = on_ok_weaker c.put_tables.result (if-any (not-empty _ _ c.as_slice.ensures c.is_empty.ensures c.if-is_empty.false)) c.put_tables.ensures

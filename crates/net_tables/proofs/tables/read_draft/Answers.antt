@@ -1,10 +1,6 @@
-use Rattle.std.proofs.Common.{Bool, Err, Some, ap, subst, ◌≡◌, ◌∙◌, map, refl}
+use Rattle.std.proofs.Common.{Err, ap, ◌∙◌, refl}
 use Rattle.std.proofs.lemmas.Result.{err_from_is_err_and}
-use Rattle.toml.specs.View.{view, table_view}
-use Rattle.foundation.specs.Options.{each}
-use Rattle.net_tables.specs.Faults.{Blames}
-use Rattle.net_tables.specs.Reading.{IsFaultAmong, IsNodeAtFault, IsLinkAtFault, IsConflictAtFault}
-use Rattle.net_tables.specs.Table.{node_of, link_of, conflict_of}
+use Rattle.toml.specs.View.{table_view}
 use Rattle.net_tables.proofs.FirstLaws.{IsRefused, draft-refused, nodes-fault, links-fault, conflicts-fault}
 use Rattle.net_tables.proofs.tables.read_draft.Goals as goal
 
@@ -12,8 +8,7 @@ use Rattle.net_tables.proofs.tables.read_draft.Goals as goal
 nodes : (c : goal.After-from_residual) → IsRefused (table_view c.args.table.now) c.from_residual.result
 nodes c =
     let p = err_from_is_err_and c.from_residual.result c.from_residual.ensures.1 in
-    let ds = map view c.in-Some.top.nodes.now in
-    let first = subst (λ (b : Bool). Blames c.in_err-nodes.field-0.0 (IsFaultAmong (node_of b) (IsNodeAtFault b) 0 ds)) c.is_some-complete.ensures c.in_err-nodes.ensures.first in
+    let first = c.in_err-nodes.ensures.first in
     draft-refused _ _ c.from_residual.result _ (p.1 ∙ ap Err p.2) (nodes-fault _ _ c.in-Some.ensures (rw (← c.in-Some-run_of.ensures) refl)) first
 
 pub returns-in_err-nodes-clause-refused : goal.returns-in_err-nodes-clause-refused
@@ -26,9 +21,8 @@ returns-in_err-nodes-clause-first c = (nodes c).first
 links : (c : goal.After-drop-nodes) → IsRefused (table_view c.args.table.now) c.from_residual-in_err-links.result
 links c =
     let p = err_from_is_err_and c.from_residual-in_err-links.result c.from_residual-in_err-links.ensures.1 in
-    let nodes = subst (λ (b : Bool). each (node_of b) (map view c.in-Some.top.nodes.now) ≡ Some c.in_ok-nodes.nodes.items) c.is_some-complete.ensures c.in_ok-nodes.ensures.ok in
-    let ds = map view c.in-Some.top.links.now in
-    let first = subst (λ (b : Bool). Blames c.in_err-links.field-0.0 (IsFaultAmong (link_of b) (IsLinkAtFault b) 0 ds)) c.is_some-complete.ensures c.in_err-links.ensures.first in
+    let nodes = c.in_ok-nodes.ensures.ok in
+    let first = c.in_err-links.ensures.first in
     draft-refused _ _ c.from_residual-in_err-links.result _ (p.1 ∙ ap Err p.2) (links-fault _ _ c.in-Some.ensures (rw (← c.in-Some-run_of.ensures) refl) (rw nodes refl)) first
 
 pub returns-in_err-links-clause-refused : goal.returns-in_err-links-clause-refused
@@ -41,10 +35,9 @@ returns-in_err-links-clause-first c = (links c).first
 conflicts : (c : goal.After-drop-nodes-in_err-conflicts) → IsRefused (table_view c.args.table.now) c.from_residual-in_err-conflicts.result
 conflicts c =
     let p = err_from_is_err_and c.from_residual-in_err-conflicts.result c.from_residual-in_err-conflicts.ensures.1 in
-    let nodes = subst (λ (b : Bool). each (node_of b) (map view c.in-Some.top.nodes.now) ≡ Some c.in_ok-nodes.nodes.items) c.is_some-complete.ensures c.in_ok-nodes.ensures.ok in
-    let links = subst (λ (b : Bool). each (link_of b) (map view c.in-Some.top.links.now) ≡ Some c.in_ok-links.links.items) c.is_some-complete.ensures c.in_ok-links.ensures.ok in
-    let ds = map view c.in-Some.top.conflicts.now in
-    let first = subst (λ (b : Bool). Blames c.in_err-conflicts.field-0.0 (IsFaultAmong conflict_of (IsConflictAtFault b) 0 ds)) c.is_some-complete.ensures c.in_err-conflicts.ensures.first in
+    let nodes = c.in_ok-nodes.ensures.ok in
+    let links = c.in_ok-links.ensures.ok in
+    let first = c.in_err-conflicts.ensures.first in
     draft-refused _ _ c.from_residual-in_err-conflicts.result _ (p.1 ∙ ap Err p.2) (conflicts-fault _ _ c.in-Some.ensures (rw (← c.in-Some-run_of.ensures) refl) (rw nodes refl) (rw links refl)) first
 
 pub returns-in_err-conflicts-clause-refused : goal.returns-in_err-conflicts-clause-refused

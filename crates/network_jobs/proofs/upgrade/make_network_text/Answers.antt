@@ -1,8 +1,4 @@
-use Rattle.net_file.proofs.Written.{text-alone}
 use Rattle.network_jobs.proofs.upgrade.make_network_text.Goals as goal
-
-pub write_network-requires : goal.write_network-requires
-write_network-requires g c = text-alone c.in_ok-network.ensures.text.text c.in_ok-network.network c.in_ok-network.ensures.text.reads.1
 
 pub returns : goal.returns
 returns g c =

@@ -1,0 +1,9 @@
+use Rattle.std.proofs.Common.{◌∙◌, sym}
+use Rattle.net_tables.proofs.PartLaws.{phase-third, phase-other}
+use Rattle.net_tables.proofs.forms.only_phase_keys.Goals as goal
+
+pub returns-then-has_overlaps : goal.returns-then-has_overlaps
+returns-then-has_overlaps c = rw (phase-third c.args.version (sym c.has_overlaps.ensures ∙ c.if-has_overlaps.true)) c.only.ensures
+
+pub returns-else-has_overlaps : goal.returns-else-has_overlaps
+returns-else-has_overlaps c = rw (phase-other c.args.version (sym c.has_overlaps.ensures ∙ c.if-has_overlaps.false)) c.only-else-has_overlaps.ensures
