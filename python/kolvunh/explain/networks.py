@@ -34,6 +34,12 @@ KEYS: dict[str, tuple[dict[str, str], dict[str, str]]] = {
     "turn": ({"exit": TEXT, "share": WHOLE}, {}),
     "conflict": ({"a": TEXT, "b": TEXT}, {}),
 }
+# The further keys of a file of version 3, and those of them that a table has together or not at all.
+THIRD: dict[str, dict[str, str]] = {
+    "phase": {"also": TEXTS},
+    "link": {"yields": TEXTS, "yield_sat": WHOLE, "walk": WHOLE, "cross": WHOLE},
+}
+PAIRS = {"link": (("yields", "yield_sat"), ("walk", "cross"))}
 # The least and the greatest value of a key, and the unit; `_number_faults` has the bounds between two keys.
 BOUNDS: dict[str, dict[str, tuple[int, int, str]]] = {
     "run": {
@@ -59,6 +65,9 @@ BOUNDS: dict[str, dict[str, tuple[int, int, str]]] = {
         "travel": (1, 120, "seconds"),
         "sat": (1, 5000, "thousandths of a vehicle a second: 500 is 1800 vehicles an hour"),
         "weight": (1, 20, ""),
+        "yield_sat": (1, 5000, "thousandths of a vehicle a second"),
+        "walk": (1, 120, "seconds"),
+        "cross": (0, 120, "seconds"),
     },
     "turn": {"share": (0, 1000, "thousandths of what the link brings")},
 }
@@ -123,15 +132,25 @@ class NetworkFile:
         """The link of this name."""
         return next(link for link in self.tables_of("link") if link["name"] == name)
 
-    def homes(self, link: str) -> list[Path]:
-        """The phases that name a link, each as often as it names it."""
+    def homes(self, link: str, keys: tuple[str, ...] = ("links",)) -> list[Path]:
+        """The phases that name a link at these keys, each as often as it names it."""
         return [
             ("node", node, "phase", phase)
             for node, table in enumerate(self.tables_of("node"))
             for phase, of_phase in enumerate(table["phase"])
-            for name in of_phase["links"]
+            for key in keys
+            for name in of_phase.get(key, [])
             if name == link
         ]
+
+    def greens(self, link: str) -> list[Path]:
+        """The phases in which a link is green, each once, in the order of the file."""
+        return list(dict.fromkeys(sorted(self.homes(link, ("links", "also")))))
+
+    def shared(self, a: str, b: str) -> Path | None:
+        """The first phase in which both links are green."""
+        others = self.greens(b)
+        return next((path for path in self.greens(a) if path in others), None)
 
 
 def place_of(section: str, item: str, sub: str) -> Path:
@@ -235,8 +254,11 @@ def shape(net: NetworkFile, section: str, item: str, sub: str) -> list[str]:
     if newer and "version" in net.tables:
         needed[newer] = others[newer]
     said = [net.say(path, _lacks(net, key, key == newer)) for key in needed if key not in table]
-    known = needed | others
+    third = THIRD.get(section, {})
+    known = needed | others | (third if net.tables.get("version") == 3 else {})
     said += [net.say(path, _further(section, key, known), key) for key in table if key not in known]
+    for first, second in PAIRS.get(section, ()) if third.keys() <= known.keys() else ():
+        said += [net.say(path, f"it has {a} and no {b}: it has both or neither", a) for a, b in ((first, second), (second, first)) if a in table and b not in table]
     said += [
         net.say(path, f"{key} is {_kind_of(table[key])}, and has to be {kind}{_kind_hint(section, key, table[key])}", key)
         for key, kind in known.items()
@@ -253,6 +275,8 @@ def _lacks(net: NetworkFile, key: str, is_newer: bool) -> str:
 def _further(section: str, key: str, known: dict[str, str]) -> str:
     """What a key is that a table may not have."""
     words = f"there is no key {quote(key)} here"
+    if key in THIRD.get(section, {}):
+        return f"{words} (a file with version = 3 may have it); it may have {', '.join(known)}"
     hint = meant(key, known)
     if not hint and section == "top" and key in ("phase", "turn"):
         hint = f" (write [[{'node' if key == 'phase' else 'link'}.{key}]])"
@@ -272,7 +296,7 @@ def _kind_of(found: Any) -> str:
 
 
 def _kind_hint(section: str, key: str, found: Any) -> str:
-    kind = (KEYS[section][0] | KEYS[section][1])[key]
+    kind = (KEYS[section][0] | KEYS[section][1] | THIRD.get(section, {}))[key]
     if isinstance(found, str) and found in ("true", "false") and kind == TRUTH:
         return ": write it without quotes"
     if isinstance(found, dict) and kind == TABLES:
@@ -310,8 +334,8 @@ def _bound_faults(net: NetworkFile, section: str, table: dict[str, Any]):
         for key, least, most in (("node", 1, 64), ("link", 1, 320), ("conflict", 0, 1024)):
             if not least <= len(net.tables_of(key)) <= most:
                 yield key, f"there are {plural(len(net.tables_of(key)), key)}, and there have to be {least} to {most}"
-        if table.get("version", 2) != 2:
-            yield "version", f"version is {value(table['version'])}, and has to be 2"
+        if table.get("version", 2) not in (2, 3):
+            yield "version", f"version is {value(table['version'])}, and has to be 2 or 3"
     if "name" in table and not NAME.fullmatch(table["name"]):
         yield "name", f"the name is {quote(table['name'])}, and has to be 1 to 16 characters out of a to z, 0 to 9 and _"
     if section == "node":
@@ -319,8 +343,11 @@ def _bound_faults(net: NetworkFile, section: str, table: dict[str, Any]):
     for key, (least, most, unit) in BOUNDS.get(section, {}).items():
         if key in table:
             yield from _number_faults(table, key, least, most, unit)
-    if section == "phase" and len(table["links"]) > LINKS_MOST:
-        yield "links", f"it names {plural(len(table['links']), 'link')}, and may name at most {LINKS_MOST}"
+    for key in ("links", "also") if section == "phase" else ():
+        if len(table.get(key, [])) > LINKS_MOST:
+            yield key, f"it names {plural(len(table[key]), 'link')}, and may name at most {LINKS_MOST}"
+    if section == "link" and not 1 <= len(table.get("yields", [""])) <= LINKS_MOST:
+        yield "yields", f"it names {plural(len(table['yields']), 'link')}, and has to name 1 to {LINKS_MOST}"
     if section == "link" and len(table.get("turn", [])) > TURNS_MOST:
         yield "turn", f"it has {plural(len(table['turn']), 'turn')}, and may have at most {TURNS_MOST}"
 
@@ -341,6 +368,8 @@ def _number_faults(table: dict[str, Any], key: str, least: int, most: int, unit:
         yield key, f"step is {number}, and has to be at most look, which is {table['look']}"
     elif key == "act_step" and table["step"] % number:
         yield key, f"act_step is {number}, and has to divide step, which is {table['step']}"
+    elif key == "yield_sat" and number > table["sat"]:
+        yield key, f"yield_sat is {number}, and has to be at most sat, which is {table['sat']}"
     elif key == "greatest" and number < table["least"]:
         yield key, f"greatest is {number}, and has to be at least least, which is {table['least']}"
     elif key == "loss" and number >= table["greatest"]:
@@ -364,8 +393,11 @@ def unknown(net: NetworkFile, section: str, item: str, sub: str) -> list[str]:
     path = place_of(section, item, sub)
     table, links, nodes = net.table(path), net.names("link"), net.names("node")
     cells = {
-        "phase": [(("links", place), name, "link") for place, name in enumerate(table.get("links", []))],
-        "link": [((key,), table[key], "node") for key in ("from", "to") if key in table],
+        "phase": [((key, place), name, "link") for key in ("links", "also") for place, name in enumerate(table.get(key, []))],
+        "link": [
+            *[((key,), table[key], "node") for key in ("from", "to") if key in table],
+            *[(("yields", place), name, "link") for place, name in enumerate(table.get("yields", []))],
+        ],
         "turn": [(("exit",), table.get("exit"), "link")],
         "conflict": [((key,), table.get(key), "link") for key in ("a", "b")],
     }[section]
@@ -462,9 +494,57 @@ def _clash_words(net: NetworkFile, a: str, b: str):
         where = [f"{quote(name)} {f'ends at {quote(end)}' if end else 'leaves the network'}" for name, end in zip((a, b), ends)]
         yield f"{enumeration(where)}: links in conflict end at one node"
         return
-    homes = [net.homes(name)[0] for name in (a, b)]
-    if homes[0] == homes[1]:
-        yield f"both are in {net.name_of(homes[0])}: links in conflict are in two phases"
+    shared = net.shared(a, b)
+    if shared is not None:
+        both = "are in" if net.homes(a)[0] == net.homes(b)[0] == shared else "are green in"
+        yield f"both {both} {net.name_of(shared)}: links in conflict are {'in two phases' if both == 'are in' else 'never green together'}"
+
+
+def also(net: NetworkFile, item: str) -> list[str]:
+    """A further green of a link in a phase that may not name it so."""
+    name = net.tables_of("link")[int(item) - 1]["name"]
+    end = net.link(name).get("to")
+    for path in net.homes(name, ("also",)):
+        if net.table(path[:2])["name"] != end:
+            ends_at = f"ends at node {quote(end)}" if end is not None else "leaves the network and has no signal"
+            return [net.say(path, f"also names {quote(name)}, which {ends_at}: it may name links that end at its own node", "also")]
+        if net.homes(name, ("links", "also")).count(path) > 1:
+            return [net.say(path, f"it names {quote(name)} twice, in links and also together: a phase names a link once", "also")]
+    return []
+
+
+def yields(net: NetworkFile, item: str) -> list[str]:
+    """A link that gives way to one to which it may not."""
+    path: Path = ("link", int(item) - 1)
+    table = net.table(path)
+    name, given = table["name"], table.get("yields", [])
+    for place, other in enumerate(given):
+        words = None
+        if other == name:
+            words = "yields names the link itself"
+        elif net.link(other).get("to") != table.get("to") or "to" not in table:
+            words = f"yields names {quote(other)}, which does not end at the same node: a link gives way to links that end at its node"
+        elif net.shared(name, other) is None:
+            words = f"yields names {quote(other)}, and no phase has both green: where they are never green together it need not give way"
+        elif other in given[:place]:
+            words = f"yields names {quote(other)} twice"
+        if words:
+            return [net.say(path, words, "yields")]
+    return []
+
+
+def walk(net: NetworkFile, item: str) -> list[str]:
+    """A link with a walk that ends at no node, or has a green that is too short."""
+    path: Path = ("link", int(item) - 1)
+    table = net.table(path)
+    if "to" not in table:
+        return [net.say(path, "it has a walk, and has no to: a crossing ends at the node whose signal it has", "walk")]
+    wanted = table["walk"] + table["cross"]
+    for green in net.greens(table["name"]):
+        least = net.table(green)["least"]
+        if least < wanted:
+            return [net.say(path, f"walk and cross are {wanted} seconds together, and {net.name_of(green)}, in which it is green, has least = {least}", "walk")]
+    return []
 
 
 CODES = {
@@ -476,7 +556,10 @@ CODES = {
     "crowd": crowd,
     "shares": shares,
     "phaseless": phaseless,
+    "also": also,
     "clash": clash,
+    "yields": yields,
+    "walk": walk,
 }
 
 
