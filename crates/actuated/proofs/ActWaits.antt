@@ -187,17 +187,17 @@ module _ (net : Net) (network : IsNetwork net) (arriving : ℕ → ℕ → ℕ) 
 
   -- and marked phases, which are called
   pub run-waits : AreWaitsWithin net (actuated_bounds net) (cumulative_by net arriving made) (end_of_run net)
-  run-waits l node wait n inside ends bound room stands =
+  run-waits l node wait n inside ends plain bound room stands =
       let plan = plan_at net node in
       let intergreen = longest_intergreen plan 0 in
       elim (has-bound plan intergreen (Some (until_called net)) (link_at net l).phase wait bound) [
-        | inl has ↦ unmarked-waits l node wait n inside ends (bound-is plan intergreen (link_at net l).phase wait has) room stands
+        | inl has ↦ unmarked-waits l node wait n inside ends plain (bound-is plan intergreen (link_at net l).phase wait has) room stands
         | inr has ↦
             let until : 0 + act_step net ≡ has.seconds = omega (arith, step-called net, same_Some (until_called net) has.seconds has.until) in
             let most : recalled_wait plan intergreen (0 + act_step net) (link_at net l).phase ≡ wait = ap (λ (s : ℕ). recalled_wait plan intergreen s (link_at net l).phase) until ∙ has.is in
             let below = node-inside net network l node inside ends in
             subst (λ (w : ℕ). Discharges (cumulative_by net arriving made) l n (n + w)) most
-            (recalled-waits net network arriving (shown_in net made) (line_before (first_line net) made) intergreen (act_rounds net) (act_step net) 0 l node inside ends (call-rounds net network arriving made acts node below l inside ends keep) has.long n (end_of_run net)
+            (recalled-waits net network arriving (shown_in net made) (line_before (first_line net) made) intergreen (act_rounds net) (act_step net) 0 l node inside ends plain (call-rounds net network arriving made acts node below l inside ends keep) has.long n (end_of_run net)
             (omega (arith, room, most)) (omega (arith, (act-rounds net network).whole)) stands)
       ]
 

@@ -11,7 +11,7 @@ use Rattle.net_simulator.specs.Shown.{cumulative_of_lines}
 use Rattle.net_simulator.specs.Sums.{end_of_run}
 use Rattle.net_simulator.specs.Worlds.{line_in, signs_by}
 use Rattle.road_net.specs.Network.{IsNetwork}
-use Rattle.waits.specs.Discharges.{AreEmptied, AreWaitsWithin, AreWholeLines, least_discharge, wait_bounds, whole_green_within}
+use Rattle.waits.specs.Discharges.{AreEmptied, AreWaitsWithin, AreWholeLines, least_discharge, least_rate, wait_bounds, whole_green_within}
 use Rattle.waits.proofs.BoundLaws.{empties, waits-within}
 use Rattle.waits.proofs.Waiting.{in-past, queue-kept}
 
@@ -35,19 +35,19 @@ module _ (net : Net) (network : IsNetwork net) (arriving : ℕ → ℕ → ℕ) 
   seen = signs_by (line_in sheet.lines)
 
   pub clean-waits : AreWaitsWithin net (wait_bounds net intergreens) (cumulative_of_lines net arriving sheet.lines) until
-  clean-waits l node wait n inside ends bound room stands =
+  clean-waits l node wait n inside ends plain bound room stands =
       let early : n ≤ until = omega (arith, room) in
-      let goes = waits-within net network arriving (line_in sheet.lines) intergreens until covers l node wait n inside ends bound room (omega (arith, stands, queue-same net arriving seen until (end_of_run net) l inside part n early)) in
+      let goes = waits-within net network arriving (line_in sheet.lines) intergreens until covers l node wait n inside ends plain bound room (omega (arith, stands, queue-same net arriving seen until (end_of_run net) l inside part n early)) in
       omega (arith, goes, left-same net arriving seen until (end_of_run net) l inside part n early, left-same net arriving seen until (end_of_run net) l inside part (n + wait) room)
 
   pub clean-empties : AreEmptied net intergreens (cumulative_of_lines net arriving sheet.lines) until
-  clean-empties l node n greens inside ends unmarked room =
+  clean-empties l node n greens inside ends plain unmarked room =
       let plan = plan_at net node in
       let k = (link_at net l).phase in
       let later = n + greens * whole_green_within plan (intergreens node) k in
-      let share = greens * least_discharge plan k (link_at net l).sat in
+      let share = greens * least_discharge plan k (least_rate (link_at net l)) in
       let early : n ≤ until = omega (arith, room) in
-      let goes = empties net network arriving (line_in sheet.lines) intergreens until covers l node n greens inside ends unmarked room in
+      let goes = empties net network arriving (line_in sheet.lines) intergreens until covers l node n greens inside ends plain unmarked room in
       let same : min (queue net (cumulative_under net arriving seen until) n l) share ≡ min (queue net (cumulative_under net arriving seen (end_of_run net)) n l) share =
       ap (λ (q : ℕ). min q share) (queue-same net arriving seen until (end_of_run net) l inside part n early) in
       omega (arith, goes, same, left-same net arriving seen until (end_of_run net) l inside part n early, left-same net arriving seen until (end_of_run net) l inside part later room)

@@ -1,5 +1,5 @@
 -- What a signal shows at a second, by the rows of its timeline.
-use Rattle.std.specs.Prelude.{ℕ, nat_lt, ◌&&◌, Bool, false, if◌then◌else◌, List, [], ◌∷◌, Option, Some, None}
+use Rattle.std.specs.Prelude.{ℕ, ◌+◌, nat_lt, ◌&&◌, Bool, false, if◌then◌else◌, List, [], ◌∷◌, Option, Some, None}
 use Rattle.control_flow.specs.declared.greens.Green.{Green}
 use Rattle.control_flow.specs.declared.greens.Sign.{Sign}
 use Rattle.control_flow.specs.declared.greens.Sign.TheVariants as signs
@@ -36,3 +36,11 @@ abbrev pub is_on : (ℕ → Bool) → Sign → Bool
 is_on green (signs.On phase since) = green phase
 is_on green (signs.Change from to) = green from && green to
 is_on green signs.Dark = false
+
+-- whether what is green in some phases is green in second x under a sign, where it may have a walk: with one it is green in the first
+-- seconds of a green alone, as many as its walk has, and in no change
+abbrev pub is_on_in : (ℕ → Bool) → Option ℕ → ℕ → Sign → Bool
+is_on_in green None x sign = is_on green sign
+is_on_in green (Some walk) x (signs.On phase since) = green phase && nat_lt x (since + walk)
+is_on_in green (Some walk) x (signs.Change from to) = false
+is_on_in green (Some walk) x signs.Dark = false

@@ -33,7 +33,7 @@ use Rattle.signal_safety.proofs.Lines.{plan-is}
 use Rattle.waits.specs.Discharges.{AreWaitsWithin}
 use Rattle.waits.specs.declared.bounds.NoBound.TheVariants.{ShortGreen}
 use Rattle.waits.proofs.BoundLaws.{node-inside}
-use Rattle.waits.proofs.Waiting.{goes-by, in-past, left-later, queue-kept}
+use Rattle.waits.proofs.Waiting.{driven-by, goes-by, in-past, left-later, queue-kept}
 
 -- the row of a phase, where it gives a bound
 record GivesBound (plan : List Phase) (cycle : List FixedRow) (k wait : ℕ) : Type 0 where
@@ -96,7 +96,7 @@ module _ (net : Net) (network : IsNetwork net) (rows : List FixedRow) (is : IsFi
   past = cumulative_under net arriving (signs_by (fixed_line net rows)) (end_of_run net)
 
   pub fixed-waits : AreWaitsWithin net (fixed_bounds net rows) (cumulative_under net arriving (signs_by (fixed_line net rows)) (end_of_run net)) (end_of_run net)
-  fixed-waits l node wait n inside ends bound room stands =
+  fixed-waits l node wait n inside ends plain bound room stands =
       let below = node-inside net network l node inside ends in
       let plan = plan_at net node in
       let cycle = rows_of rows node in
@@ -115,7 +115,7 @@ module _ (net : Net) (network : IsNetwork net) (rows : List FixedRow) (is : IsFi
       let link : IsLink (length net.node_names) (link_at net l) = All-get_or (IsLink (length net.node_names)) net.links l no_link (let f = network.outline.road_count in omega (arith, f, inside)) network.outline.links in
       let seen = signs_by (fixed_line net rows) in
       let early : 0 < queue net (cumulative_under net arriving seen n) n l = omega (arith, stands, queue-kept net arriving seen l inside end n (omega (arith, room))) in
-      let goes = goes-by net arriving seen l inside link.travel.0 link.sat.0 node ends n x by.at (omega (arith, by.after)) shown (omega arith) early in
+      let goes = goes-by net arriving seen l inside link.travel.0 (driven-by net network l inside plain) node ends n x by.at (omega (arith, by.after)) shown (omega arith) early in
       let later = left-later net arriving seen l inside (x + 1) (n + wait) (omega (arith, by.before, has.is)) in
       omega (arith, goes, later, ap (λ (q : Cumulative). q.left) (in-past net arriving seen l inside end n (omega (arith, room))), ap (λ (q : Cumulative). q.left) (in-past net arriving seen l inside end (n + wait) room))
 

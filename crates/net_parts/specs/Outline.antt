@@ -1,5 +1,6 @@
 -- The parts of a network by number, and how many there are.
 use Rattle.std.specs.Prelude.{◌≡◌, ℕ, ◌<◌, ◌≤◌, ◌==◌, Bool, false, ◌||◌, List, [], ◌∷◌, Option, Some, None, IfSome, length, slice_index_or, All}
+use Rattle.std.specs.Option.{option_map, option_map_or}
 use Rattle.net_parts.specs.Limits.{most_links, most_sat, most_travel}
 use Rattle.phase_plan.specs.declared.Phase.{Phase}
 use Rattle.phase_plan.specs.Phases.{IsPlan}
@@ -11,6 +12,14 @@ use Rattle.net_parts.specs.Numbers.{Net, AreDistinct, has_link, no_link, phase_o
 -- the link with this number
 abbrev pub link_at : Net → ℕ → Link
 link_at net l = slice_index_or net.links l no_link
+
+-- the first seconds of a green in which alone a link is green, where it has a walk
+abbrev pub walk_at : Net → ℕ → Option ℕ
+walk_at net l = option_map (λ walk. walk.seconds) (link_at net l).walk
+
+-- the seconds that who has entered such a link needs to be over; 0 where it has no walk
+abbrev pub cross_at : Net → ℕ → ℕ
+cross_at net l = option_map_or (λ walk. walk.cross) (link_at net l).walk 0
 
 -- the turns at the end of a link
 abbrev pub turns_at : Net → ℕ → List Turn

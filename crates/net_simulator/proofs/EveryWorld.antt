@@ -1,5 +1,5 @@
 -- What holds of every world, whatever moves in a second: nothing is lost, and all amounts are within bounds.
-use Rattle.std.proofs.Common.{◌≡◌, ◌≢◌, ℕ, zero, suc, ◌+◌, ◌-◌, ◌*◌, ◌<◌, ◌≤◌, List, [], Option, Some, None, IfSome, All, AllPairs, length, get_or, slice_index, refl, sym, ap, ◌∙◌, inl, inr, add-one, arith}
+use Rattle.std.proofs.Common.{◌≡◌, ◌≢◌, ℕ, zero, suc, ◌+◌, ◌-◌, ◌*◌, ◌<◌, ◌≤◌, List, [], Option, Some, None, IfSome, All, AllPairs, length, get_or, slice_index, refl, sym, ap, subst, ◌∙◌, inl, inr, add-one, arith}
 use Rattle.std.proofs.lemmas.Bool.{cases_lt}
 use Rattle.std.proofs.lemmas.Bool.Decides.{eqb_tells}
 use Rattle.std.proofs.lemmas.List.{get_or_past}
@@ -9,7 +9,7 @@ use Rattle.phase_plan.specs.declared.Phase.{Phase}
 use Rattle.net_parts.specs.declared.roads.Link.{Link}
 use Rattle.net_parts.specs.declared.roads.Turn.{Turn}
 use Rattle.net_parts.specs.Numbers.{Net, no_link}
-use Rattle.net_parts.specs.Outline.{link_at, turns_at, IsLink, AreTurns}
+use Rattle.net_parts.specs.Outline.{link_at, turns_at, IsLink, ArePhaseLinks, AreTurns}
 use Rattle.road_net.specs.Joins.{split_of, HasShares}
 use Rattle.road_net.specs.Network.{IsNetwork}
 use Rattle.road_net.specs.Totals.{total}
@@ -36,6 +36,13 @@ loss-most plans n k all = elim (cases_lt n (length plans)) [
   | inr past ↦ (let e = ap (λ (plan : List Phase). (phase_at plan k).loss) (get_or_past plans n [] past) in omega (arith, e))
 ]
 
+-- a link gives way to links that there are
+yields-below : (lists : List (List ℕ)) (links l : ℕ) → All (ArePhaseLinks links) lists → All (λ m. m < links) (get_or lists l [])
+yields-below lists links l all = elim (cases_lt l (length lists)) [
+  | inl there ↦ (All-get_or (ArePhaseLinks links) lists l [] there all).exist
+  | inr past ↦ subst (All (λ m. m < links)) (sym (get_or_past lists l [] past)) (λ i d h. absurd (omega arith))
+]
+
 -- a node at the end of a link is one of the nodes
 below-some : (to : Option ℕ) (node n : ℕ) → IfSome to (λ k. k < n) → to ≡ Some node → node < n
 below-some to node n below is = rw is at below
@@ -49,6 +56,7 @@ bounds-of net network =
       most = λ l h. (link l h).travel.1;
       ends = ends;
       losses = λ node k. loss-most net.plans node k network.outline.plans;
+      yields = λ l. yields-below net.yields (length net.link_names) l network.outline.yields;
     }
 
 pub parts-of : (net : Net) → IsNetwork net → (l : ℕ) → l < length net.link_names → HasShares net.links (turns_at net l) (link_at net l).to × AreTurns (length net.link_names) (turns_at net l)

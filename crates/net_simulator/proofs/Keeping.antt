@@ -1,25 +1,26 @@
 -- One second of the code is one second of the past.
-use Rattle.std.proofs.Common.{◌≡◌, ◌≢◌, ℕ, ◌+◌, ◌-◌, ◌*◌, ◌%◌, ◌<◌, ◌≤◌, Bool, false, not, ◌&&◌, leb, ltb, min, cond, List, Option, Some, None, length, slice_index, slice_index_or, refl, sym, ap, ◌∙◌, inl, inr, add-one, arith}
+use Rattle.std.specs.List.{list_any}
+use Rattle.std.proofs.Common.{◌≡◌, ◌≢◌, ℕ, suc, ◌+◌, ◌-◌, ◌*◌, ◌%◌, ◌<◌, ◌≤◌, Bool, not, ◌&&◌, ◌||◌, leb, ltb, min, cond, List, [], ◌∷◌, All, Option, Some, None, get_or, length, slice_index, slice_index_or, refl, sym, ap, ◌∙◌, inl, inr, add-one, arith}
 use Rattle.std.proofs.Math.Nat.{add-mod_right}
 use Rattle.std.proofs.lemmas.Bool.{cases_Bool, le-leb, lt-leb, ltb-true}
 use Rattle.std.proofs.lemmas.Bool.Decides.{eqb_tells}
 use Rattle.phase_plan.specs.Phases.{phase_at}
 use Rattle.net_parts.specs.Numbers.{Net}
-use Rattle.net_parts.specs.Outline.{link_at, plan_at, turns_at}
+use Rattle.net_parts.specs.Outline.{link_at, plan_at, turns_at, yields_at}
 use Rattle.road_net.specs.Joins.{split_of}
 use Rattle.control_flow.specs.declared.greens.Sign.{Sign}
 use Rattle.control_flow.specs.declared.greens.Sign.TheVariants.{Change, Dark, On}
 use Rattle.road_net.specs.Totals.{total}
-use Rattle.net_simulator.specs.Flow.{Cumulative, queue, waiting, is_lost, may_go, discharge_to, discharge}
+use Rattle.net_simulator.specs.Flow.{Cumulative, queue, waiting, is_busy, is_lost, may_go, rate, discharge_to, discharge}
 use Rattle.net_simulator.specs.Moves.{Moves}
 use Rattle.net_simulator.specs.Rows.{cell}
 use Rattle.net_simulator.specs.Discharging.{begun}
 use Rattle.net_simulator.specs.LinkGreens.{is_green, lit_since, loss_of, never}
-use Rattle.net_simulator.specs.LinkSeconds.{is_open, waits_at}
+use Rattle.net_simulator.specs.LinkSeconds.{is_busy_by, is_open, rate_by, waits_at}
 use Rattle.net_simulator.specs.Steps.{goes}
 use Rattle.net_simulator.specs.Worlds.{Keeps}
 use Rattle.road_net.proofs.TotalLaws.{total-same}
-use Rattle.net_simulator.proofs.LightLaws.{and-same, begun-by}
+use Rattle.net_simulator.proofs.LightLaws.{and-same, begun-by, green-none-at}
 use Rattle.net_simulator.proofs.Sound.{IsSound, Continues}
 
 -- one turn of the row later the cell is the same
@@ -35,6 +36,7 @@ pub record HasBounds (net : Net) : Type 0 where
   pub most : (l : ℕ) → l < length net.link_names → (link_at net l).travel ≤ 120
   pub ends : (l node : ℕ) → l < length net.link_names → (link_at net l).to ≡ Some node → node < length net.node_names
   pub losses : (node k : ℕ) → (phase_at (plan_at net node) k).loss ≤ 10
+  pub yields : (l : ℕ) → All (λ m. m < length net.link_names) (yields_at net l)
 
 module _ (net : Net) (x : ℕ) (before : ℕ → ℕ → Cumulative) (qs rs ws : List ℕ) (bounds : HasBounds net) (sound : IsSound net before x) (keeps : Keeps net before qs rs ws x) where
   -- what waits
@@ -69,40 +71,65 @@ module _ (net : Net) (x : ℕ) (before : ℕ → ℕ → Cumulative) (qs rs ws :
   loss-small node (Change from to) = bounds.losses node from
   loss-small node Dark = omega arith
 
+  -- whether a link is green, by the second since which it is
+  lit-tests : (shown : ℕ → ℕ → Sign) (since : List ℕ) (l : ℕ) → x < 4294967295 → slice_index since l ≡ lit_since (is_green net shown l) (x + 1) → leb (slice_index since l) x ≡ is_green net shown l x
+  lit-tests shown since l early lit =
+      let on = is_green net shown l in
+      let here = lit ∙ ap (lit_since on) (add-one x) in
+      elim (cases_Bool (on x)) [
+        | inl is ↦ ap (λ b. leb b x) (here ∙ ap (λ (b : Bool). cond b (begun on x) never) is) ∙ le-leb (begun on x) x (begun-by on x) ∙ sym is
+        | inr isnt ↦ ap (λ b. leb b x) (here ∙ ap (λ (b : Bool). cond b (begun on x) never) isnt) ∙ lt-leb never x early ∙ sym isnt
+      ]
+
   pub open-same : (shown : ℕ → ℕ → Sign) (since : List ℕ) (l node : ℕ) → l < length net.link_names → (link_at net l).to ≡ Some node → x < 4294967295
       → slice_index since l ≡ lit_since (is_green net shown l) (x + 1) → is_open net ws since x l node (shown x node) ≡ may_go net shown before x l node
   open-same shown since l node h to early lit =
       let on = is_green net shown l in
       let loss = loss_of (plan_at net node) (shown x node) in
       let here = lit ∙ ap (lit_since on) (add-one x) in
-      elim (cases_Bool (on x)) [
-        | inl is ↦
-            let from : slice_index since l ≡ begun on x = here ∙ ap (λ (b : Bool). cond b (begun on x) never) is in
-            let opens : (leb (begun on x) x && not (is_lost loss (begun on x) x (cell ws l (begun on x)))) ≡ not (is_lost loss (begun on x) x (cell ws l (begun on x))) =
-            ap (λ (b : Bool). b && not (is_lost loss (begun on x) x (cell ws l (begun on x)))) (le-leb (begun on x) x (begun-by on x)) in
-            let may : may_go net shown before x l node ≡ not (is_lost loss (begun on x) x (queue net before (begun on x) l)) =
-            ap (λ (b : Bool). b && not (is_lost loss (begun on x) x (queue net before (begun on x) l))) is in
-            ap (λ b. leb b x && not (is_lost loss b x (cell ws l b))) from ∙ opens
-            ∙ ap not (lost-same l (begun on x) loss h (begun-by on x) (loss-small node (shown x node))) ∙ sym may
-        | inr isnt ↦
-            let from : slice_index since l ≡ never = here ∙ ap (λ (b : Bool). cond b (begun on x) never) isnt in
-            let opens : is_open net ws since x l node (shown x node) ≡ false =
-            ap (λ b. leb b x && not (is_lost loss b x (cell ws l b))) from ∙ ap (λ (b : Bool). b && not (is_lost loss never x (cell ws l never))) (lt-leb never x early) in
-            opens ∙ sym (ap (λ (b : Bool). b && not (is_lost loss (begun on x) x (queue net before (begun on x) l))) isnt)
-      ]
+      let by-code : ℕ → Bool = λ b. not (is_lost loss b x (cell ws l b)) in
+      let by-past : Bool = not (is_lost loss (begun on x) x (queue net before (begun on x) l)) in
+      ap (λ (b : Bool). b && by-code (slice_index since l)) (lit-tests shown since l early lit)
+      ∙ and-same (on x) (by-code (slice_index since l)) by-past (λ is.
+      ap by-code (here ∙ ap (λ (b : Bool). cond b (begun on x) never) is)
+      ∙ ap not (lost-same l (begun on x) loss h (begun-by on x) (loss-small node (shown x node))))
 
-  goes-to : (shown : ℕ → ℕ → Sign) (signs : List Sign) (since : List ℕ) (l w : ℕ) (to : Option ℕ) → l < length net.link_names → (link_at net l).to ≡ to → x < 4294967295
-      → slice_index since l ≡ lit_since (is_green net shown l) (x + 1) → ((n : ℕ) → n < length net.node_names → shown x n ≡ slice_index_or signs n Dark) → w ≡ waiting net before x l
-      → goes net signs since ws x l w to ≡ discharge_to net shown before x l to
-  goes-to shown signs since l w None h to early lit seen same = same
-  goes-to shown signs since l w (Some node) h to early lit seen same =
-      let may = ap (is_open net ws since x l node) (sym (seen node (bounds.ends l node h to))) ∙ open-same shown since l node h to early lit in
-      ap (λ b. cond b (min (link_at net l).sat w) 0) may ∙ ap (λ n. cond (may_go net shown before x l node) (min (link_at net l).sat n) 0) same
+  -- how much it discharges at the most
+  any-same : (f g : ℕ → Bool) (xs : List ℕ) → All (λ m. f m ≡ g m) xs → list_any f xs ≡ list_any g xs
+  any-same f g [] same = refl
+  any-same f g (y ∷ ys) same =
+      let here = same 0 y (omega arith) in
+      let rest = any-same f g ys (λ i d h. same (suc i) d (omega arith)) in
+      λ i. here i || rest i
 
-  pub goes-same : (shown : ℕ → ℕ → Sign) (signs : List Sign) (since : List ℕ) (l w : ℕ) → l < length net.link_names → x < 4294967295
-      → slice_index since l ≡ lit_since (is_green net shown l) (x + 1) → ((n : ℕ) → n < length net.node_names → shown x n ≡ slice_index_or signs n Dark) → w ≡ waiting net before x l
-      → goes net signs since ws x l w (link_at net l).to ≡ discharge net shown before x l
-  goes-same shown signs since l w h early lit seen same = goes-to shown signs since l w (link_at net l).to h refl early lit seen same
+  module _ (shown : ℕ → ℕ → Sign) (since ready : List ℕ) (early : x < 4294967295) (lit : (k : ℕ) → k < length net.link_names → slice_index since k ≡ lit_since (is_green net shown k) (x + 1))
+      (same : (k node : ℕ) → k < length net.link_names → (link_at net k).to ≡ Some node → slice_index ready k ≡ waiting net before x k) where
+    busy-same : (m : ℕ) → m < length net.link_names → is_busy_by since ready x m ≡ is_busy net shown before x m
+    busy-same m inside = ap (λ (b : Bool). b && ltb 0 (slice_index ready m)) (lit-tests shown since m early (lit m inside)) ∙ by (link_at net m).to refl
+      where
+        by : (to : Option ℕ) → (link_at net m).to ≡ to → (is_green net shown m x && ltb 0 (slice_index ready m)) ≡ (is_green net shown m x && ltb 0 (waiting net before x m))
+        by None to = ap (λ (b : Bool). b && ltb 0 (slice_index ready m)) (green-none-at net shown m x to) ∙ sym (ap (λ (b : Bool). b && ltb 0 (waiting net before x m)) (green-none-at net shown m x to))
+        by (Some node) to = ap (λ w. is_green net shown m x && ltb 0 w) (same m node inside to)
+
+    -- what waits at the ends of links that leave the network does not count
+    pub rate-seen : (l : ℕ) → rate_by net since ready x l ≡ rate net shown before x l
+    rate-seen l =
+        let busy = any-same (is_busy_by since ready x) (is_busy net shown before x) (yields_at net l) (λ i d h. busy-same (get_or (yields_at net l) i d) (bounds.yields l i d h)) in
+        ap (λ (b : Bool). cond b (link_at net l).yield_sat (link_at net l).sat) busy
+
+  module _ (shown : ℕ → ℕ → Sign) (signs : List Sign) (since ready : List ℕ) (early : x < 4294967295)
+      (lit : (k : ℕ) → k < length net.link_names → slice_index since k ≡ lit_since (is_green net shown k) (x + 1)) (seen : (n : ℕ) → n < length net.node_names → shown x n ≡ slice_index_or signs n Dark)
+      (same : (k : ℕ) → k < length net.link_names → slice_index ready k ≡ waiting net before x k) where
+    goes-to : (l : ℕ) (to : Option ℕ) → l < length net.link_names → (link_at net l).to ≡ to → goes net signs since ws ready x l to ≡ discharge_to net shown before x l to
+    goes-to l None h to = same l h
+    goes-to l (Some node) h to =
+        let may = ap (is_open net ws since x l node) (sym (seen node (bounds.ends l node h to))) ∙ open-same shown since l node h to early (lit l h) in
+        ap (λ b. cond b (min (rate_by net since ready x l) (slice_index ready l)) 0) may
+        ∙ ap (λ a. cond (may_go net shown before x l node) (min a (slice_index ready l)) 0) (rate-seen shown since ready early lit (λ k n b at. same k b) l)
+        ∙ ap (λ w. cond (may_go net shown before x l node) (min (rate net shown before x l) w) 0) (same l h)
+
+    pub goes-same : (l : ℕ) → l < length net.link_names → goes net signs since ws ready x l (link_at net l).to ≡ discharge net shown before x l
+    goes-same l h = goes-to l (link_at net l).to h refl
 
 module _ (net : Net) (m : Moves) (x : ℕ) (before after : ℕ → ℕ → Cumulative) (qs rs ws : List ℕ)
     (bounds : HasBounds net) (on : Continues net m x before after) (keeps : Keeps net before qs rs ws x) where

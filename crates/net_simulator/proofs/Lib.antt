@@ -7,7 +7,6 @@ pub mod Sound
 pub mod Standing
 pub mod Keeping
 pub mod Lighting
-pub mod Leaving
 pub mod Conserving
 pub mod EveryWorld
 pub mod Outside

@@ -1,13 +1,20 @@
 -- When links are green: how it goes on second by second, and on what of the signs it depends.
-use Rattle.std.proofs.Common.{◌≡◌, ℕ, zero, suc, ◌+◌, ◌-◌, ◌<◌, ◌≤◌, Bool, true, false, not, ◌&&◌, cond, min, List, Option, Some, None, length, slice_index, slice_index_or, refl, sym, ap, ◌∙◌, inl, inr, add-one, arith}
-use Rattle.std.proofs.lemmas.Bool.{cases_Bool}
+use Rattle.std.proofs.Common.{◌≡◌, ℕ, zero, suc, ◌+◌, ◌-◌, ◌<◌, ◌≤◌, Bool, true, false, not, ◌&&◌, cond, ltb, min, List, Option, Some, None, is_some, length, slice_index, slice_index_or, refl, sym, ap, ◌∙◌, inl, inr, add-one, arith}
+use Rattle.std.specs.List.{list_any}
+use Rattle.std.specs.Option.{option_map}
+use Rattle.std.proofs.lemmas.Bool.{cases_Bool, cases_lt, false≢true}
+use Rattle.std.proofs.lemmas.List.{get_or_past}
+use Rattle.std.proofs.lemmas.List.Folds.{list_any_at}
+use Rattle.control_flow.specs.Signs.{is_on, is_on_in}
 use Rattle.control_flow.specs.declared.greens.Sign.{Sign}
 use Rattle.control_flow.specs.declared.greens.Sign.TheVariants.{Dark}
-use Rattle.net_parts.specs.Numbers.{Net}
-use Rattle.net_parts.specs.Outline.{link_at, plan_at}
+use Rattle.net_parts.specs.declared.roads.Link.{Link}
+use Rattle.net_parts.specs.declared.roads.Walk.{Walk}
+use Rattle.net_parts.specs.Numbers.{Net, no_link}
+use Rattle.net_parts.specs.Outline.{is_green_in, link_at, plan_at, walk_at, yields_at}
 use Rattle.net_simulator.specs.Discharging.{begun, green_for}
-use Rattle.net_simulator.specs.Flow.{Cumulative, discharge, discharge_to, is_lost, may_go, queue, waiting}
-use Rattle.net_simulator.specs.LinkGreens.{is_green, is_green_to, is_lit, last_sign, lit_on, lit_since, loss_of, never}
+use Rattle.net_simulator.specs.Flow.{Cumulative, discharge, discharge_to, is_lost, may_go, queue, rate, waiting}
+use Rattle.net_simulator.specs.LinkGreens.{has_walks, is_green, is_green_to, is_lit, last_sign, lit_on, lit_since, loss_of, never}
 use Rattle.net_simulator.specs.LinkSeconds.{AreLit}
 use Rattle.net_simulator.specs.Worlds.{AreShown}
 use Rattle.net_simulator.proofs.ExtraGreenLaws.{green-more, green-none}
@@ -83,7 +90,7 @@ begun-since on since x by holds =
 -- ---- of a link
 
 module _ (net : Net) (shown : ℕ → ℕ → Sign) (l : ℕ) where
-  pub green-at : (x node : ℕ) → (link_at net l).to ≡ Some node → is_green net shown l x ≡ is_lit net l (shown x node)
+  pub green-at : (x node : ℕ) → (link_at net l).to ≡ Some node → is_green net shown l x ≡ is_lit net l x (shown x node)
   green-at x node to = ap (is_green_to net shown l x) to
 
   pub green-none-at : (x : ℕ) → (link_at net l).to ≡ None → is_green net shown l x ≡ false
@@ -98,16 +105,31 @@ module _ (net : Net) (shown : ℕ → ℕ → Sign) (l : ℕ) where
   lit-next x node to early =
       ap (λ (b : Bool). cond b (min (lit_since (is_green net shown l) x) x) never) (sym (green-at x node to)) ∙ since-next (is_green net shown l) x early ∙ ap (lit_since (is_green net shown l)) (sym (add-one x))
 
-  pub lit-still : (x node : ℕ) → (link_at net l).to ≡ Some node → lit_since (is_green net shown l) x ≡ lit_on net l x (last_sign shown x node) (lit_since (is_green net shown l) x)
-  lit-still zero node to = refl
-  lit-still (suc y) node to =
-      since-still (is_green net shown l) y ∙ ap (λ (b : Bool). cond b (min (lit_since (is_green net shown l) (suc y)) (suc y)) never) (green-at y node to)
+  -- without a walk the second does not count
+  plain : (x : ℕ) (s : Sign) → walk_at net l ≡ None → is_lit net l x s ≡ is_on (is_green_in net l) s
+  plain x s none = ap (λ (w : Option ℕ). is_on_in (is_green_in net l) w x s) none
+
+  pub lit-still : (x node : ℕ) → (link_at net l).to ≡ Some node → walk_at net l ≡ None → lit_since (is_green net shown l) x ≡ lit_on net l x (last_sign shown x node) (lit_since (is_green net shown l) x)
+  lit-still zero node to none = sym (ap (λ (b : Bool). cond b (min never 0) never) (plain 0 Dark none))
+  lit-still (suc y) node to none =
+      since-still (is_green net shown l) y ∙ ap (λ (b : Bool). cond b (min (lit_since (is_green net shown l) (suc y)) (suc y)) never) (green-at y node to ∙ plain y (shown y node) none ∙ sym (plain (suc y) (shown y node) none))
+
+-- where no link has a walk
+no-walk : (net : Net) → has_walks net ≡ false → (l : ℕ) → walk_at net l ≡ None
+no-walk net none l = elim (cases_lt l (length net.links)) [
+  | inl inside ↦ by (link_at net l).walk (λ some. false≢true (sym none ∙ list_any_at (λ (k : Link). is_some k.walk) net.links l no_link inside some))
+  | inr past ↦ ap (λ (k : Link). option_map (λ (w : Walk). w.seconds) k.walk) (get_or_past net.links l no_link past)
+]
+  where
+    by : (walk : Option Walk) → (is_some walk ≡ true → ⊥) → option_map (λ (w : Walk). w.seconds) walk ≡ None
+    by None never_some = refl
+    by (Some w) never_some = absurd (never_some refl)
 
 -- what is kept of lights changes only where signs do
 pub are-lit : (net : Net) (shown : ℕ → ℕ → Sign) (x : ℕ) (signs : List Sign) (since : List ℕ) → AreShown net shown x signs since
-    → ((l node : ℕ) → l < length net.link_names → (link_at net l).to ≡ Some node → node < length net.node_names) → AreLit net x signs since
-are-lit net shown x signs since are ends l node inside to =
-    are.since l inside ∙ lit-still net shown l x node to
+    → ((l node : ℕ) → l < length net.link_names → (link_at net l).to ≡ Some node → node < length net.node_names) → has_walks net ≡ false → AreLit net x signs since
+are-lit net shown x signs since are ends none l node inside to =
+    are.since l inside ∙ lit-still net shown l x node to (no-walk net none l)
     ∙ ap (λ (s : Sign). lit_on net l x s (lit_since (is_green net shown l) x)) (sym (are.signs node (ends l node inside to)))
     ∙ ap (lit_on net l x (slice_index_or signs node Dark)) (sym (are.since l inside))
 
@@ -126,12 +148,12 @@ lit-after net shown x signs since next are early here none l inside = by (link_a
 
 -- In the first n seconds the same links are green, and a green loses as many seconds.
 pub record AreAlike (net : Net) (n : ℕ) (shown seen : ℕ → ℕ → Sign) : Type 0 where
-  pub green : (x l node : ℕ) → x < n → (link_at net l).to ≡ Some node → is_lit net l (shown x node) ≡ is_lit net l (seen x node)
-  pub loss : (x l node : ℕ) → x < n → (link_at net l).to ≡ Some node → is_lit net l (shown x node) ≡ true → loss_of (plan_at net node) (shown x node) ≡ loss_of (plan_at net node) (seen x node)
+  pub green : (x l node : ℕ) → x < n → (link_at net l).to ≡ Some node → is_lit net l x (shown x node) ≡ is_lit net l x (seen x node)
+  pub loss : (x l node : ℕ) → x < n → (link_at net l).to ≡ Some node → is_lit net l x (shown x node) ≡ true → loss_of (plan_at net node) (shown x node) ≡ loss_of (plan_at net node) (seen x node)
 
 pub alike-shown : (net : Net) (n : ℕ) (shown seen : ℕ → ℕ → Sign) → ((x l node : ℕ) → x < n → (link_at net l).to ≡ Some node → shown x node ≡ seen x node) → AreAlike net n shown seen
 alike-shown net n shown seen same = record {
-  green = λ x l node h to. ap (is_lit net l) (same x l node h to);
+  green = λ x l node h to. ap (is_lit net l x) (same x l node h to);
   loss = λ x l node h to is. ap (loss_of (plan_at net node)) (same x l node h to);
 }
 
@@ -163,13 +185,19 @@ module _ (net : Net) (n : ℕ) (shown seen : ℕ → ℕ → Sign) (alike : AreA
       ap (λ k. lost k (begun one x)) (alike.loss x l node h to (sym (green-at net shown l x node to) ∙ is)) ∙ ap (lost (loss_of (plan_at net node) (seen x node))) from)
       ∙ ap (λ (b : Bool). b && lost (loss_of (plan_at net node) (seen x node)) (begun other x)) (green-same l x h)
 
+  -- how much it discharges at the most
+  pub rate-same : (past : ℕ → ℕ → Cumulative) (x l : ℕ) → x < n → rate net shown past x l ≡ rate net seen past x l
+  rate-same past x l h = λ i. cond (list_any (λ m. green-same m x h i && ltb 0 (waiting net past x m)) (yields_at net l)) (link_at net l).yield_sat (link_at net l).sat
+
   -- and so what it discharges
   pub discharge-same : (past : ℕ → ℕ → Cumulative) (x l : ℕ) → x < n → discharge net shown past x l ≡ discharge net seen past x l
   discharge-same past x l h = by (link_at net l).to refl
     where
       by : (to : Option ℕ) → (link_at net l).to ≡ to → discharge_to net shown past x l to ≡ discharge_to net seen past x l to
       by None to = refl
-      by (Some node) to = ap (λ (b : Bool). cond b (min (link_at net l).sat (waiting net past x l)) 0) (may-same past x l node h to)
+      by (Some node) to =
+          ap (λ (b : Bool). cond b (min (rate net shown past x l) (waiting net past x l)) 0) (may-same past x l node h to)
+          ∙ ap (λ a. cond (may_go net seen past x l node) (min a (waiting net past x l)) 0) (rate-same past x l h)
 
 -- the last signs
 pub last-same : (shown seen : ℕ → ℕ → Sign) (n node : ℕ) → ((x : ℕ) → x < n → shown x node ≡ seen x node) → last_sign shown n node ≡ last_sign seen n node

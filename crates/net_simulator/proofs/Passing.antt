@@ -73,11 +73,12 @@ module _ (net : Net) (network : IsNetwork net) (arriving : ℕ → ℕ → ℕ) 
   delay-small = delay-within net network (flows net arriving shown) (cumulative_under net arriving shown) (flow-moved net arriving shown) arrivals
 
 -- what the code does in second x
-pub record IsStep (net : Net) (arriving : ℕ → ℕ) (x : ℕ) (rs1 lv : List ℕ) (w v : WorldState) : Type 0 where
+pub record IsStep (net : Net) (arriving : ℕ → ℕ) (x : ℕ) (rs1 ready lv : List ℕ) (w v : WorldState) : Type 0 where
   pub arrives : (l : ℕ) → l < length net.link_names → cell rs1 l x ≡ arriving l
   pub arrives-others : (l y : ℕ) → y % 128 ≢ x % 128 → cell rs1 l y ≡ cell w.recent l y
-  pub leaves : (l : ℕ) → l < length net.link_names → slice_index lv l ≡ goes net v.signs v.since w.waits x l (waits_at net w.queues rs1 x l) (link_at net l).to
-  pub queues : (l : ℕ) → l < length net.link_names → slice_index v.queues l ≡ waits_at net w.queues rs1 x l - slice_index lv l
+  pub gathers : (l : ℕ) → l < length net.link_names → slice_index ready l ≡ waits_at net w.queues rs1 x l
+  pub leaves : (l : ℕ) → l < length net.link_names → slice_index lv l ≡ goes net v.signs v.since w.waits ready x l (link_at net l).to
+  pub queues : (l : ℕ) → l < length net.link_names → slice_index v.queues l ≡ slice_index ready l - slice_index lv l
   pub enters : (l : ℕ) → l < length net.link_names → cell v.recent l x ≡ cell rs1 l x + total (λ k. split_of (turns_at net k) (slice_index lv k) l) (length net.link_names)
   pub enters-others : (l y : ℕ) → y % 128 ≢ x % 128 → cell v.recent l y ≡ cell rs1 l y
   pub remembers : (l : ℕ) → l < length net.link_names → cell v.waits l (x + 1) ≡ slice_index v.queues l
@@ -113,14 +114,15 @@ module _ (net : Net) (network : IsNetwork net) (arriving : ℕ → ℕ → ℕ) 
   room-leave rs1 others l h = omega (arith, waits-now rs1 others l h, waits-most net network moves past course arrivals w.second l h)
 
   -- what leaves in this second
-  pub leaves-now : (signs : List Sign) (since rs1 lv : List ℕ) → w.second < 18000 → ((n : ℕ) → n < length net.node_names → slice_index_or signs n Dark ≡ sign_at (lines n) w.second)
+  pub leaves-now : (signs : List Sign) (since rs1 ready lv : List ℕ) → w.second < 18000 → ((n : ℕ) → n < length net.node_names → slice_index_or signs n Dark ≡ sign_at (lines n) w.second)
       → ((l : ℕ) → l < length net.link_names → slice_index since l ≡ lit_since (is_green net (signs_by lines) l) (w.second + 1))
       → ((l y : ℕ) → y % 128 ≢ w.second % 128 → cell rs1 l y ≡ cell w.recent l y)
-      → ((l : ℕ) → l < length net.link_names → slice_index lv l ≡ goes net signs since w.waits w.second l (waits_at net w.queues rs1 w.second l) (link_at net l).to)
+      → ((l : ℕ) → l < length net.link_names → slice_index ready l ≡ waits_at net w.queues rs1 w.second l)
+      → ((l : ℕ) → l < length net.link_names → slice_index lv l ≡ goes net signs since w.waits ready w.second l (link_at net l).to)
       → (l : ℕ) → l < length net.link_names → slice_index lv l ≡ discharge net (signs_by lines) before w.second l
-  leaves-now signs since rs1 lv early seen lit others leaves l h =
-      leaves l h ∙ goes-same net w.second before w.queues w.recent w.waits (bounds-of net network) sound stands.keeps (signs_by lines)
-      signs since l (waits_at net w.queues rs1 w.second l) h (omega (arith, early)) (lit l h) (seen-by signs (length net.node_names) lines w.second seen) (waits-now rs1 others l h)
+  leaves-now signs since rs1 ready lv early seen lit others gathers leaves l h =
+      leaves l h ∙ goes-same net w.second before w.queues w.recent w.waits (bounds-of net network) sound stands.keeps (signs_by lines) signs since ready (omega (arith, early)) lit
+      (seen-by signs (length net.node_names) lines w.second seen) (λ k b. gathers k b ∙ waits-now rs1 others k b) l h
 
   -- what enters in this second, by what the code keeps
   pub enters-now : (lv : List ℕ) → ((l : ℕ) → l < length net.link_names → slice_index lv l ≡ discharge net (signs_by lines) before w.second l)
@@ -152,20 +154,20 @@ module _ (net : Net) (network : IsNetwork net) (arriving : ℕ → ℕ → ℕ) 
       let few = network.outline.link_count.1 in
       omega (arith, ap (λ (t : Totals). t.delay) stands.totals, each, all, few)
 
-  pub stands-next : (rs1 lv : List ℕ) (v : WorldState) → w.second < 18000 → v.second ≡ w.second + 1 → HasShape net v
+  pub stands-next : (rs1 ready lv : List ℕ) (v : WorldState) → w.second < 18000 → v.second ≡ w.second + 1 → HasShape net v
       → ((n : ℕ) → n < length net.node_names → slice_index_or v.signs n Dark ≡ sign_at (lines n) w.second)
       → ((l : ℕ) → l < length net.link_names → slice_index v.since l ≡ lit_since (is_green net (signs_by lines) l) (w.second + 1))
-      → IsStep net (arriving w.second) w.second rs1 lv w v → Stands net arriving (signs_by lines) v
-  stands-next rs1 lv v below second shape seen lit step =
+      → IsStep net (arriving w.second) w.second rs1 ready lv w v → Stands net arriving (signs_by lines) v
+  stands-next rs1 ready lv v below second shape seen lit step =
       let x : ℕ = w.second in
       let S : ℕ → ℕ → Sign = signs_by lines in
       let Q : ℕ → ℕ → Cumulative = cumulative_under net arriving S (x + 1) in
       let on : Continues net (moves x) x before Q = next-one net moves past course x in
-      let leaves = leaves-now v.signs v.since rs1 lv below seen lit step.arrives-others step.leaves in
+      let leaves = leaves-now v.signs v.since rs1 ready lv below seen lit step.arrives-others step.gathers step.leaves in
       let recent : (l : ℕ) → l < length net.link_names → cell v.recent l x ≡ arriving x l + total (λ k. split_of (turns_at net k) (slice_index lv k) l) (length net.link_names) = λ l h. omega (arith, step.enters l h, step.arrives l h) in
       let keeps : Keeps net Q v.queues v.recent v.waits (x + 1) =
       keeps-next net (moves x) x before Q w.queues w.recent w.waits (bounds-of net network) on stands.keeps lv v.queues v.recent v.waits leaves
-      (λ l h. step.queues l h ∙ ap (λ n. n - slice_index lv l) (waits-now rs1 step.arrives-others l h)) recent (λ l y ne. step.enters-others l y ne ∙ step.arrives-others l y ne) step.remembers step.remembers-others in
+      (λ l h. step.queues l h ∙ ap (λ n. n - slice_index lv l) (step.gathers l h ∙ waits-now rs1 step.arrives-others l h)) recent (λ l y ne. step.enters-others l y ne ∙ step.arrives-others l y ne) step.remembers step.remembers-others in
       let kept : (l y : ℕ) → y ≤ x → queue net Q y l ≡ queue net before y l = λ l y h. kept-queue net (moves x) x before Q w.queues w.recent w.waits (bounds-of net network) on stands.keeps y l h in
       let entered : (l : ℕ) → l < length net.link_names → (counts_at v.counts l).entered ≡ (Q (x + 1) l).entered = λ l h.
       omega (arith, ap (λ (q : LinkTotals). q.entered) (step.counts l h), ap (λ (q : LinkTotals). q.entered) (stands.counts l h), ap (λ (q : Cumulative). q.entered) (on.next l h), recent l h, enters-now lv leaves l) in
@@ -210,9 +212,9 @@ module _ (net : Net) (network : IsNetwork net) (arriving : ℕ → ℕ → ℕ) 
 -- a world that stands, seen as `v`, by lists that are those that it keeps
 pub stands-parts : (net : Net) (arriving : ℕ → ℕ → ℕ) (shown : ℕ → ℕ → Sign) (w v : WorldState) (gs : List Sign) (fs qs rs ws ss : List ℕ) (cs : List LinkTotals)
     → w ≡ v → gs ≡ w.signs → fs ≡ w.since → qs ≡ w.queues → rs ≡ w.recent → ws ≡ w.waits → ss ≡ w.stood → cs ≡ w.counts → Stands net arriving shown v
-    → Stands net arriving shown (record { second = w.second; signs = gs; since = fs; queues = qs; recent = rs; waits = ws; stood = ss; counts = cs; totals = w.totals })
+    → Stands net arriving shown (record { second = w.second; signs = gs; since = fs; queues = qs; recent = rs; waits = ws; stood = ss; counts = cs; totals = w.totals; walks = w.walks })
 stands-parts net arriving shown w v gs fs qs rs ws ss cs seen a z b c d e f stands =
-    subst (Stands net arriving shown) (λ i. record { second = w.second; signs = sym a i; since = sym z i; queues = sym b i; recent = sym c i; waits = sym d i; stood = sym e i; counts = sym f i; totals = w.totals }) (subst (Stands net arriving shown) (sym seen) stands)
+    subst (Stands net arriving shown) (λ i. record { second = w.second; signs = sym a i; since = sym z i; queues = sym b i; recent = sym c i; waits = sym d i; stood = sym e i; counts = sym f i; totals = w.totals; walks = w.walks }) (subst (Stands net arriving shown) (sym seen) stands)
 
 -- what is kept of lights, in lists that are those that are kept
 pub lights-parts : (net : Net) (shown : ℕ → ℕ → Sign) (x : ℕ) (last gs : List Sign) (lit fs : List ℕ) → gs ≡ last → fs ≡ lit → AreShown net shown x last lit → AreShown net shown x gs fs

@@ -4,7 +4,7 @@ use Rattle.std.proofs.lemmas.Bool.{cond_both, cases_lt}
 use Rattle.std.proofs.lemmas.Bool.Decides.{eqb_tells}
 use Rattle.net_parts.specs.Numbers.{Net}
 use Rattle.net_parts.specs.Outline.{link_at}
-use Rattle.net_simulator.specs.Flow.{Cumulative, nothing, total_reached, waiting, may_go, discharge_to, history, cumulative_under}
+use Rattle.net_simulator.specs.Flow.{Cumulative, nothing, total_reached, waiting, may_go, rate, discharge_to, history, cumulative_under}
 use Rattle.net_simulator.specs.Moves.{Moves, moved}
 use Rattle.net_simulator.proofs.MoveLaws.{flowing, cumulative_by, moves_by, kept-by, next-by, none-by}
 use Rattle.net_simulator.proofs.FlowLaws.{past-kept, past-next, past-none}
@@ -12,7 +12,7 @@ use Rattle.control_flow.specs.declared.greens.Sign.{Sign}
 
 pub discharge_to-most : (net : Net) (shown : ℕ → ℕ → Sign) (past : ℕ → ℕ → Cumulative) (x l : ℕ) (to : Option ℕ) → discharge_to net shown past x l to ≤ waiting net past x l
 discharge_to-most net shown past x l None = omega arith
-discharge_to-most net shown past x l (Some node) = cond_both (may_go net shown past x l node) (min (link_at net l).sat (waiting net past x l)) 0 (λ n. n ≤ waiting net past x l) (λ e. omega arith) (λ e. omega arith)
+discharge_to-most net shown past x l (Some node) = cond_both (may_go net shown past x l node) (min (rate net shown past x l) (waiting net past x l)) 0 (λ n. n ≤ waiting net past x l) (λ e. omega arith) (λ e. omega arith)
 
 pub record IsSound (net : Net) (past : ℕ → ℕ → Cumulative) (n : ℕ) : Type 0 where
   pub grows : (k l : ℕ) → k < n → l < length net.link_names → (past k l).entered ≤ (past (k + 1) l).entered

@@ -1,9 +1,9 @@
 -- What enters the links of a network and leaves them, second by second.
 use Rattle.std.specs.Prelude.{ℕ, zero, suc, ◌+◌, ◌-◌, min, nat_lt, Bool, not, ◌&&◌, if◌then◌else◌, List, [], ◌∷◌, ◌++◌, Option, Some, None, map, length, slice_index_or}
-use Rattle.std.specs.List.{range_with_len}
+use Rattle.std.specs.List.{list_any, range_with_len}
 use Rattle.net_parts.specs.Numbers.{Net}
 use Rattle.control_flow.specs.declared.greens.Sign.{Sign}
-use Rattle.net_parts.specs.Outline.{link_at, plan_at, turns_at}
+use Rattle.net_parts.specs.Outline.{link_at, plan_at, turns_at, yields_at}
 use Rattle.road_net.specs.Joins.{split_of}
 use Rattle.road_net.specs.Totals.{total}
 use Rattle.net_simulator.specs.Discharging.{begun}
@@ -48,10 +48,18 @@ may_go net shown past x l node =
     let from = begun (is_green net shown l) x in
     is_green net shown l x && not (is_lost (loss_of (plan_at net node) (shown x node)) from x (queue net past from l))
 
+-- whether a link is busy in second x: it is green, also where the second is lost, and something waits at its end before anything leaves
+abbrev pub is_busy : Net → (ℕ → ℕ → Sign) → (ℕ → ℕ → Cumulative) → ℕ → ℕ → Bool
+is_busy net shown past x l = is_green net shown l x && nat_lt 0 (waiting net past x l)
+
+-- what a link discharges at the most in second x, where it may: less while a link to which it gives way is busy
+abbrev pub rate : Net → (ℕ → ℕ → Sign) → (ℕ → ℕ → Cumulative) → ℕ → ℕ → ℕ
+rate net shown past x l = if list_any (is_busy net shown past x) (yields_at net l) then (link_at net l).yield_sat else (link_at net l).sat
+
 -- what a link discharges in second x: all that waits, where it ends at no node
 abbrev pub discharge_to : Net → (ℕ → ℕ → Sign) → (ℕ → ℕ → Cumulative) → ℕ → ℕ → Option ℕ → ℕ
 discharge_to net shown past x l None = waiting net past x l
-discharge_to net shown past x l (Some node) = if may_go net shown past x l node then min (link_at net l).sat (waiting net past x l) else 0
+discharge_to net shown past x l (Some node) = if may_go net shown past x l node then min (rate net shown past x l) (waiting net past x l) else 0
 
 -- what a link discharges in second x, by the node where it ends
 abbrev pub discharge : Net → (ℕ → ℕ → Sign) → (ℕ → ℕ → Cumulative) → ℕ → ℕ → ℕ

@@ -1,8 +1,8 @@
 -- What a second is at a link, by what a world keeps: a number for each link, or a row of 128 seconds for each.
 use Rattle.std.specs.Prelude.{◌≡◌, ℕ, ◌+◌, ◌-◌, ◌<◌, nat_le, nat_lt, Bool, not, ◌&&◌, if◌then◌else◌, List, Some, length, map, slice_index, slice_index_or}
-use Rattle.std.specs.List.{range_with_len}
+use Rattle.std.specs.List.{list_any, range_with_len}
 use Rattle.net_parts.specs.Numbers.{Net}
-use Rattle.net_parts.specs.Outline.{link_at, plan_at}
+use Rattle.net_parts.specs.Outline.{link_at, plan_at, yields_at}
 use Rattle.road_net.specs.declared.senses.LinkSense.{LinkSense}
 use Rattle.control_flow.specs.declared.greens.Sign.{Sign}
 use Rattle.control_flow.specs.declared.greens.Sign.TheVariants.{Dark}
@@ -23,6 +23,14 @@ abbrev pub is_open : Net → List ℕ → List ℕ → ℕ → ℕ → ℕ → S
 is_open net waits since x l node sign =
     let from = slice_index since l in
     nat_le from x && not (is_lost (loss_of (plan_at net node) sign) from x (cell waits l from))
+
+-- whether a link is busy in second x, where `since` has the second since which each link is green, and `ready` what waits at the end of each
+abbrev pub is_busy_by : List ℕ → List ℕ → ℕ → ℕ → Bool
+is_busy_by since ready x l = nat_le (slice_index since l) x && nat_lt 0 (slice_index ready l)
+
+-- what link l discharges at the most in second x, where it may
+abbrev pub rate_by : Net → List ℕ → List ℕ → ℕ → ℕ → ℕ
+rate_by net since ready x l = if list_any (is_busy_by since ready x) (yields_at net l) then (link_at net l).yield_sat else (link_at net l).sat
 
 -- what waits at the end of link l: its queue, and what entered it one travel time ago
 abbrev pub waits_at : Net → List ℕ → List ℕ → ℕ → ℕ → ℕ

@@ -6,15 +6,15 @@ use Rattle.net_parts.specs.Outline.{link_at}
 use Rattle.control_flow.specs.declared.greens.Sign.{Sign}
 use Rattle.control_flow.specs.declared.greens.Sign.TheVariants.{Dark}
 use Rattle.road_net.specs.Totals.{total}
-use Rattle.net_simulator.specs.LinkSeconds.{is_open}
+use Rattle.net_simulator.specs.LinkSeconds.{is_open, rate_by}
 use Rattle.net_simulator.specs.Sums.{outward}
 use Rattle.net_simulator.specs.Worlds.{Stands, WorldState}
 use Rattle.net_simulator.specs.declared.totals.LinkTotals.{LinkTotals}
 
--- what link l discharges of what waits at its end
-abbrev pub goes : Net → List Sign → List ℕ → List ℕ → ℕ → ℕ → ℕ → Option ℕ → ℕ
-goes net signs since waits x l waiting None = waiting
-goes net signs since waits x l waiting (Some node) = if is_open net waits since x l node (slice_index_or signs node Dark) then min (link_at net l).sat waiting else 0
+-- what link l discharges, where `ready` has what waits at the end of each link
+abbrev pub goes : Net → List Sign → List ℕ → List ℕ → List ℕ → ℕ → ℕ → Option ℕ → ℕ
+goes net signs since waits ready x l None = slice_index ready l
+goes net signs since waits ready x l (Some node) = if is_open net waits since x l node (slice_index_or signs node Dark) then min (rate_by net since ready x l) (slice_index ready l) else 0
 
 -- what leaves the network, where links discharge this
 abbrev pub goes_out : Net → List ℕ → ℕ
@@ -51,4 +51,5 @@ pub record IsLookedAt (net : Net) (arriving : ℕ → ℕ → ℕ) (shown : ℕ 
     stood = w.stood;
     counts = w.counts;
     totals = w.totals;
+    walks = w.walks;
   })

@@ -1,5 +1,5 @@
 -- What a world stands for.
-use Rattle.std.specs.Prelude.{◌≡◌, ℕ, ◌+◌, ◌-◌, ◌*◌, ◌<◌, ◌≤◌, List, [], length, slice_index, slice_index_or}
+use Rattle.std.specs.Prelude.{◌≡◌, ℕ, ◌+◌, ◌-◌, ◌*◌, ◌<◌, ◌≤◌, Bool, List, [], length, slice_index, slice_index_or}
 use Rattle.net_parts.specs.Limits.{most_seconds, most_travel}
 use Rattle.net_parts.specs.Numbers.{Net}
 use Rattle.control_flow.specs.declared.greens.Green.{Green}
@@ -10,7 +10,7 @@ use Rattle.net_simulator.specs.Flow.{Cumulative, queue, cumulative_under}
 use Rattle.arrivals.specs.Amounts.{Amounts, AreArrivals, arriving_of}
 use Rattle.net_simulator.specs.Sums.{link_totals, totals}
 use Rattle.net_simulator.specs.Rows.{cell, kept_seconds}
-use Rattle.net_simulator.specs.LinkGreens.{is_green, last_sign, lit_since}
+use Rattle.net_simulator.specs.LinkGreens.{has_walks, is_green, last_sign, lit_since}
 use Rattle.net_simulator.specs.Counts.{counts_at}
 use Rattle.net_simulator.specs.Senses.{stood}
 use Rattle.net_simulator.specs.declared.totals.LinkTotals.{LinkTotals}
@@ -25,7 +25,7 @@ abbrev pub signs_by : (ℕ → List Green) → ℕ → ℕ → Sign
 signs_by lines x node = sign_at (lines node) x
 
 -- what a world keeps: its second, the last sign of each node, and for each link since when it is green, its queue, rows of what
--- entered it and of its queues, for how long a queue has stood, and what is counted
+-- entered it and of its queues, for how long a queue has stood, and what is counted; and whether a link of the network has a walk
 pub record WorldState : Type 0 where
   pub second : ℕ
   pub signs : List Sign
@@ -36,6 +36,7 @@ pub record WorldState : Type 0 where
   pub stood : List ℕ
   pub counts : List LinkTotals
   pub totals : Totals
+  pub walks : Bool
 
 -- it has a place for each node and link
 pub record HasShape (net : Net) (w : WorldState) : Type 0 where
@@ -46,6 +47,7 @@ pub record HasShape (net : Net) (w : WorldState) : Type 0 where
   pub waits : length w.waits ≡ length net.link_names * kept_seconds
   pub stood : length w.stood ≡ length net.link_names
   pub counts : length w.counts ≡ length net.link_names
+  pub walks : w.walks ≡ has_walks net
 
 -- What is kept of the links is what passed them in the first x seconds: the queues, what entered in each of the last 120
 -- seconds, and the queues after the last 120 seconds and now.

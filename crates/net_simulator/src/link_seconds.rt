@@ -2,20 +2,21 @@
 //!
 //! They work on the slices that a world keeps, a number for each link, or a row of 128 seconds for each (`rows`).
 
-ghost use Rattle.std.specs.Prelude.{◌≡◌, ◌≢◌, ◌↔◌, IsTrue, ℕ, ◌*◌, ◌%◌, ◌≤◌, ◌<◌, ◌^◌, None, Some, length, slice_index, slice_index_or};
+ghost use Rattle.std.specs.Prelude.{◌≡◌, ◌≢◌, ◌↔◌, IsTrue, false, ℕ, ◌*◌, ◌%◌, ◌≤◌, ◌<◌, ◌^◌, None, Some, is_some, length, slice_index, slice_index_or};
+ghost use Rattle.std.specs.List.{list_any};
 ghost use Rattle.net_parts.specs.Limits.{most_seconds};
-ghost use Rattle.control_flow.specs.Signs.{sign_at};
+ghost use Rattle.control_flow.specs.Signs.{is_on, is_on_in, sign_at};
 ghost use Rattle.control_flow.specs.declared.greens.Sign.TheVariants.{Dark};
-ghost use Rattle.net_parts.specs.Outline.{link_at, plan_at};
-ghost use Rattle.net_simulator.specs.LinkGreens.{is_lit, lit_on, loss_of};
-ghost use Rattle.net_simulator.specs.LinkSeconds.{AreLit, is_open, stands_on, waits_at};
+ghost use Rattle.net_parts.specs.Outline.{is_green_in, link_at, plan_at};
+ghost use Rattle.net_simulator.specs.LinkGreens.{has_walks, is_lit, lit_on, loss_of};
+ghost use Rattle.net_simulator.specs.LinkSeconds.{AreLit, is_busy_by, is_open, rate_by, stands_on, waits_at};
 ghost use Rattle.net_simulator.specs.Rows.{cell, kept_seconds};
 ghost use Rattle.net_simulator.specs.Sums.{outward};
 
 use super::lights::Lights;
 use super::rows;
 use control_flow::greens::Sign;
-use road_net::{Network, law_of_network};
+use road_net::{Link, Network, law_of_network};
 
 /// The signs of the nodes in a second, in their order, and the second since which each link is green; 2^32 - 1 for a link that is not.
 ///
@@ -29,9 +30,31 @@ pub struct Shown<'a> {
 }
 
 /// Whether a link is green in a second in which the node at its end shows this sign.
-fn is_lit(net: &Network, l: u32, sign: Sign) -> bool
+fn is_lit(net: &Network, l: u32, second: u32, sign: Sign) -> bool
     requires { l < length net.now.link_names }
-    ensures { result ≡ is_lit net.now l sign }
+    ensures { result ≡ is_lit net.now l second sign }
+{
+    match net.link(l).walk {
+        None => is_on(net, l, sign),
+        Some(walk) => is_walked(net, l, second, sign, walk.seconds),
+    }
+}
+
+/// Whether a link with a walk of these seconds is green in a second in which the node at its end shows this sign.
+fn is_walked(net: &Network, l: u32, second: u32, sign: Sign, walk: u32) -> bool
+    requires { l < length net.now.link_names }
+    ensures { result ≡ is_on_in (is_green_in net.now l) (Some walk) second sign }
+{
+    let Sign::On { phase, since } = sign else {
+        return false;
+    };
+    net.is_green(l, phase) && u64::from(second) < u64::from(since) + u64::from(walk)
+}
+
+/// Whether a link without a walk is green where the node at its end shows this sign.
+fn is_on(net: &Network, l: u32, sign: Sign) -> bool
+    requires { l < length net.now.link_names }
+    ensures { result ≡ is_on (is_green_in net.now l) sign }
 {
     match sign {
         Sign::Dark => false,
@@ -45,7 +68,7 @@ fn lit_on(net: &Network, l: u32, second: u32, sign: Sign, since: u32) -> u32
     requires { l < length net.now.link_names }
     ensures { result ≡ lit_on net.now l second sign since }
 {
-    if is_lit(net, l, sign) {
+    if is_lit(net, l, second, sign) {
         since.min(second)
     } else {
         u32::MAX
@@ -67,15 +90,15 @@ fn light(since: &mut [u32], net: &Network, node: u32, sign: Sign, second: u32)
     }
 }
 
-/// Whether two signs are the same.
-fn is_same(one: Sign, other: Sign) -> bool
-    ensures { IsTrue result ↔ one ≡ other }
+/// Whether no link has a walk, so that only a change of signs changes what is green, and two signs are the same.
+fn stays(walks: bool, one: Sign, other: Sign) -> bool
+    ensures { IsTrue result ↔ (walks ≡ false) × (one ≡ other) }
 {
-    one == other
+    !walks && one == other
 }
 
 /// Looks once at the light of each node: `signs` gets the signs of the nodes in this second, in their order, and `since` the second
-/// since which each link is green. Only at a node whose sign has changed links are looked at.
+/// since which each link is green. Where no link has a walk, links are looked at only at a node whose sign has changed.
 ///
 /// docs/RULES.md, "World".
 pub fn look<T: Lights>(
@@ -84,10 +107,12 @@ pub fn look<T: Lights>(
     net: &Network,
     lights: &T,
     second: u32,
+    walks: bool,
 )
     requires signs { length signs.old ≡ length net.now.node_names }
     requires since { length since.old ≡ length net.now.link_names }
-    requires lit { AreLit net.now second signs.old since.old }
+    requires walks { walks ≡ has_walks net.now }
+    requires lit { walks ≡ false → AreLit net.now second signs.old since.old }
     ensures signs { (n : ℕ) → n < length net.now.node_names
         → slice_index_or signs.new n Dark ≡ sign_at (T.lines lights.now n) second }
     ensures since { (l node : ℕ) → l < length net.now.link_names → (link_at net.now l).to ≡ Some node
@@ -98,7 +123,7 @@ pub fn look<T: Lights>(
 {
     for node in 0..net.nodes() {
         let sign = lights.sign(node, second);
-        if !is_same(signs[node as usize], sign) {
+        if !stays(walks, signs[node as usize], sign) {
             signs[node as usize] = sign;
             light(since, net, node, sign, second);
         }
@@ -141,6 +166,55 @@ pub fn is_open(net: &Network, waits: &[u32], shown: &Shown, second: u32, l: u32,
         return false;
     }
     second - from >= loss_of(net, node, shown.signs[node as usize]) || rows::at(waits, l, from) == 0
+}
+
+/// Whether a link is busy in a second: it is green, and something waits at its end.
+fn is_busy(since: &[u32], ready: &[u32], second: u32, l: u32) -> bool
+    ensures { result ≡ is_busy_by since.now ready.now second l }
+{
+    since.get(l as usize).copied().unwrap_or(0) <= second
+        && ready.get(l as usize).copied().unwrap_or(0) > 0
+}
+
+/// Whether one of these links is busy in a second.
+fn is_one_busy(since: &[u32], ready: &[u32], second: u32, links: &[u32]) -> bool
+    ensures { result ≡ list_any (is_busy_by since.now ready.now second) links.now }
+{
+    links
+        .iter()
+        .any(|link| is_busy(since, ready, second, *link))
+}
+
+/// What link `l` discharges at the most in a second, where it may: less while a link to which it gives way is busy. `since` has the
+/// second since which each link is green, and `ready` what waits at the end of each.
+///
+/// docs/RULES.md, "World".
+pub fn rate(net: &Network, since: &[u32], ready: &[u32], second: u32, l: u32) -> u32
+    requires { l < length net.now.link_names }
+    ensures { result ≡ rate_by net.now since.now ready.now second l }
+{
+    let link = net.link(l);
+    if is_one_busy(since, ready, second, net.yields(l)) {
+        link.yield_sat
+    } else {
+        link.sat
+    }
+}
+
+/// Whether some link of a network has a walk.
+///
+/// docs/RULES.md, "Links".
+pub fn has_walks(net: &Network) -> bool
+    ensures { result ≡ has_walks net.now }
+{
+    is_one_walked(net.parts().links.as_slice())
+}
+
+/// Whether one of these links has a walk.
+fn is_one_walked(links: &[Link]) -> bool
+    ensures { result ≡ list_any (λ link. is_some link.walk) links.now }
+{
+    links.iter().any(|link| link.walk.is_some())
 }
 
 /// What waits at the end of link `l` in a second below 18,000, in thousandths of a vehicle: its queue, and what entered it one

@@ -12,7 +12,7 @@ ghost use Rattle.net_simulator.specs.Sums as sums;
 ghost use Rattle.road_net.specs.Joins.{split_of};
 ghost use Rattle.road_net.specs.Totals.{total};
 
-use super::link_seconds::{Shown, is_open, outward, waiting_amount};
+use super::link_seconds::{Shown, is_open, outward, rate, waiting_amount};
 use super::rows;
 use super::totals::LinkTotals;
 use arrivals::Arrivals;
@@ -49,59 +49,78 @@ pub(crate) fn arrive(recent: &mut [u32], links: u32, arrivals: &Arrivals, second
     all
 }
 
-/// What link `l` discharges in this second of what waits at its end.
-fn goes(net: &Network, waits: &[u32], shown: &Shown, second: u32, l: u32, waiting: u32) -> u32
+/// What link `l` discharges in this second of what waits at its end; `ready` has what waits at the end of each link.
+fn goes(net: &Network, waits: &[u32], shown: &Shown, ready: &[u32], second: u32, l: u32) -> u32
     requires link { l < length net.now.link_names }
     requires signs { length shown.now.signs.now ≡ length net.now.node_names }
     requires since { length shown.now.since.now ≡ length net.now.link_names }
     requires waits { length waits.now ≡ length net.now.link_names * kept_seconds }
-    ensures value { result ≡
-        goes net.now shown.now.signs.now shown.now.since.now waits.now second l waiting (link_at net.now l).to }
-    ensures most { result ≤ waiting }
+    requires ready { length ready.now ≡ length net.now.link_names }
+    ensures value { result ≡ goes net.now shown.now.signs.now shown.now.since.now waits.now ready.now second l
+        (link_at net.now l).to }
+    ensures most { result ≤ slice_index ready.now l }
 {
+    let waiting = ready[l as usize];
     if waiting == 0 {
         return 0;
     }
-    let link = net.link(l);
-    let Some(node) = link.to else {
+    let Some(node) = net.link(l).to else {
         return waiting;
     };
     if is_open(net, waits, shown, second, l, node) {
-        waiting.min(link.sat)
+        waiting.min(rate(net, shown.since, ready, second, l))
     } else {
         0
     }
 }
 
-/// Each link discharges what it may of what waits at its end.
+/// Adds to the queues what reaches the ends of links in this second: then they are what waits there.
+pub(crate) fn gather(queues: &mut [u32], net: &Network, recent: &[u32], second: u32)
+    requires queues { length queues.old ≡ length net.now.link_names }
+    requires recent { length recent.now ≡ length net.now.link_names * kept_seconds }
+    requires second { second < most_seconds }
+    requires fits { (l : ℕ) → l < length net.now.link_names → waits_at net.now queues.old recent.now second l < 2 ^ 32 }
+    ensures { (l : ℕ) → l < length net.now.link_names
+        → slice_index queues.new l ≡ waits_at net.now queues.old recent.now second l }
+{
+    for l in 0..net.links() {
+        queues[l as usize] = waiting_amount(net, queues, recent, second, l);
+    }
+}
+
+/// Each link discharges what it may of what waits at its end; `ready` has what waits at the end of each link.
 pub(crate) fn leave(
     leaving: &mut [u32],
-    queues: &mut [u32],
     net: &Network,
-    recent: &[u32],
     waits: &[u32],
     shown: &Shown,
+    ready: &[u32],
     second: u32,
 )
     requires leaving { length leaving.old ≡ length net.now.link_names }
-    requires queues { length queues.old ≡ length net.now.link_names }
-    requires recent { length recent.now ≡ length net.now.link_names * kept_seconds }
     requires waits { length waits.now ≡ length net.now.link_names * kept_seconds }
     requires signs { length shown.now.signs.now ≡ length net.now.node_names }
     requires since { length shown.now.since.now ≡ length net.now.link_names }
-    requires second { second < most_seconds }
-    requires fits { (l : ℕ) → l < length net.now.link_names → waits_at net.now queues.old recent.now second l < 2 ^ 32 }
+    requires ready { length ready.now ≡ length net.now.link_names }
     ensures leaving { (l : ℕ) → l < length net.now.link_names → slice_index leaving.new l ≡
-        goes net.now shown.now.signs.now shown.now.since.now waits.now second l
-        (waits_at net.now queues.old recent.now second l) (link_at net.now l).to }
-    ensures queues { (l : ℕ) → l < length net.now.link_names → slice_index queues.new l ≡
-        waits_at net.now queues.old recent.now second l - slice_index leaving.new l }
+        goes net.now shown.now.signs.now shown.now.since.now waits.now ready.now second l (link_at net.now l).to }
+    ensures most { (l : ℕ) → l < length net.now.link_names → slice_index leaving.new l ≤ slice_index ready.now l }
 {
     for l in 0..net.links() {
-        let waiting = waiting_amount(net, queues, recent, second, l);
-        let amount = goes(net, waits, shown, second, l, waiting);
-        leaving[l as usize] = amount;
-        queues[l as usize] = waiting - amount;
+        leaving[l as usize] = goes(net, waits, shown, ready, second, l);
+    }
+}
+
+/// What has left the ends of links is no longer in their queues.
+pub(crate) fn settle(queues: &mut [u32], leaving: &[u32], links: u32)
+    requires queues { length queues.old ≡ links }
+    requires leaving { length leaving.now ≡ links }
+    requires most { (l : ℕ) → l < links → slice_index leaving.now l ≤ slice_index queues.old l }
+    ensures { (l : ℕ) → l < links
+        → slice_index queues.new l ≡ slice_index queues.old l - slice_index leaving.now l }
+{
+    for l in 0..links {
+        queues[l as usize] -= leaving[l as usize];
     }
 }
 

@@ -17,7 +17,7 @@ ghost use Rattle.net_simulator.specs.Worlds.{WorldState, Stands, IsWorldOf, sign
 ghost use Rattle.road_net.specs.Senses.{IsSensedOf};
 
 use super::lights::Lights;
-use super::link_seconds::{Shown, look, remember};
+use super::link_seconds::{Shown, has_walks, look, remember};
 use super::seconds;
 use super::sensing::{Sight, near_amount, sense_links};
 use super::starts::{no_greens, no_signs, zeros};
@@ -48,6 +48,7 @@ pub struct World {
     leaving: Vec<u32>,
     counts: Vec<LinkTotals>,
     totals: Totals,
+    walks: bool,
 }
 
 impl Model for World {
@@ -67,6 +68,7 @@ impl Model for World {
       stood = w.stood.items;
       counts = w.counts.items;
       totals = w.totals;
+      walks = w.walks;
     } };
 
     ghost invariant = { λ w. (length w.leaving.items ≡ length w.queues.items) × IsBalanced w.totals };
@@ -110,6 +112,7 @@ impl World {
                 on: 0,
                 delay: 0,
             },
+            walks: has_walks(net),
         })
     }
 
@@ -256,6 +259,7 @@ impl World {
             net,
             lights,
             x,
+            self.walks,
         );
         let moment = Moment {
             net,
@@ -265,6 +269,7 @@ impl World {
             arrivals,
             totals: self.totals,
             second: x,
+            walks: self.walks,
         };
         self.totals = pass_second(
             self.queues.as_mut_slice(),
@@ -290,6 +295,7 @@ struct Moment<'a, T> {
     arrivals: &'a Arrivals,
     totals: Totals,
     second: u32,
+    walks: bool,
 }
 
 /// What happens in one second. Answers what is counted then of the whole network.
@@ -322,6 +328,7 @@ fn pass_second<T: Lights>(
           stood = stood.old;
           counts = counts.old;
           totals = moment.now.totals;
+          walks = moment.now.walks;
         }) }
     ensures whole { IsBalanced result }
     ensures stands { Stands moment.now.net.now (arriving_of moment.now.arrivals.now)
@@ -335,6 +342,7 @@ fn pass_second<T: Lights>(
           stood = stood.new;
           counts = counts.new;
           totals = result;
+          walks = moment.now.walks;
         }) }
 {
     let net = moment.net;
@@ -346,7 +354,9 @@ fn pass_second<T: Lights>(
         signs: moment.signs,
         since: moment.since,
     };
-    seconds::leave(leaving, queues, net, recent, waits, &shown, x);
+    seconds::gather(queues, net, recent, x);
+    seconds::leave(leaving, net, waits, &shown, queues, x);
+    seconds::settle(queues, leaving, links);
     let out = seconds::enter(recent, net, leaving, x);
     remember(waits, stood, queues, links, x + 1);
     let waiting = seconds::count(counts, recent, leaving, queues, links, x);

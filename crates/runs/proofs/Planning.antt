@@ -271,17 +271,17 @@ module _ (net : Net) (network : IsNetwork net) (arriving : ℕ → ℕ → ℕ) 
 
   -- and marked phases where they are recalled
   pub run-waits : AreWaitsWithin net (planned_bounds net) (cumulative_by net arriving made (end_of_run net)) (end_of_run net)
-  run-waits l node wait n inside ends bound room stands =
+  run-waits l node wait n inside ends plain bound room stands =
       let plan = plan_at net node in
       let intergreen = longest_intergreen plan net.run.look in
       elim (has-bound plan intergreen (until_recalled net) (link_at net l).phase wait bound) [
-        | inl has ↦ unmarked-waits l node wait n inside ends (bound-is plan intergreen (link_at net l).phase wait has) room stands
+        | inl has ↦ unmarked-waits l node wait n inside ends plain (bound-is plan intergreen (link_at net l).phase wait has) room stands
         | inr has ↦
             let (recall, some, until) = recall-of net has.seconds has.until in
             let most : recalled_wait plan intergreen (recall + net.run.step) (link_at net l).phase ≡ wait = ap (λ (s : ℕ). recalled_wait plan intergreen s (link_at net l).phase) until ∙ has.is in
             let below = node-inside net network l node inside ends in
             subst (λ (w : ℕ). Discharges (cumulative_by net arriving made (end_of_run net)) l n (n + w)) most
-            (recalled-waits net network arriving (shown_by net made) (line_before net made) intergreen net.run.rounds net.run.step recall l node inside ends (recall-rounds net network arriving heard made commits node below recall some l inside ends) has.long n (end_of_run net)
+            (recalled-waits net network arriving (shown_by net made) (line_before net made) intergreen net.run.rounds net.run.step recall l node inside ends plain (recall-rounds net network arriving heard made commits node below recall some l inside ends) has.long n (end_of_run net)
             (omega (arith, room, most)) (omega arith) stands)
       ]
 

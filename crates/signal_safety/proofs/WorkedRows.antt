@@ -13,7 +13,7 @@ phase : Phase
 phase = record { least = 5; greatest = 30; yellow = 3; clear = 2; loss = 2; wait = 120; skip = false }
 
 link : ℕ → Link
-link home = record { from = None; to = Some 0; travel = 10; sat = 500; weight = 1; phase = home }
+link home = record { from = None; to = Some 0; travel = 10; sat = 500; weight = 1; phase = home; yield_sat = 0; walk = None }
 
 -- through 0, left 1 and cross 2 end at node 0; link 3 leaves it
 net : Net
@@ -25,8 +25,9 @@ net = record {
   phase_links = ((0 ∷ []) ∷ (1 ∷ []) ∷ (2 ∷ []) ∷ []) ∷ [];
   also_links = ((1 ∷ []) ∷ [] ∷ [] ∷ []) ∷ [];
   link_names = (98 ∷ []) ∷ (99 ∷ []) ∷ (100 ∷ []) ∷ (101 ∷ []) ∷ [];
-  links = link 0 ∷ link 1 ∷ link 2 ∷ record { from = Some 0; to = None; travel = 5; sat = 500; weight = 1; phase = 0 } ∷ [];
+  links = link 0 ∷ link 1 ∷ link 2 ∷ record { from = Some 0; to = None; travel = 5; sat = 500; weight = 1; phase = 0; yield_sat = 0; walk = None } ∷ [];
   turns = (record { exit = 3; share = 1000 } ∷ []) ∷ (record { exit = 3; share = 1000 } ∷ []) ∷ (record { exit = 3; share = 1000 } ∷ []) ∷ [] ∷ [];
+  yields = [] ∷ [] ∷ [] ∷ [] ∷ [];
   conflicts = (1, 2) ∷ [];
 }
 

@@ -22,7 +22,7 @@ rooms-same turns (t ∷ ts) f g amount same =
 -- how the links of a network begin a second
 pub record AgreeAt (net : Net) (o p : Opening) : Type 0 where
   pub waits : (l : ℕ) → l < length net.link_names → o.waits l ≡ p.waits l
-  pub may_go : (l node : ℕ) → l < length net.link_names → (link_at net l).to ≡ Some node → o.may_go l node ≡ p.may_go l node
+  pub rate : (l node : ℕ) → l < length net.link_names → (link_at net l).to ≡ Some node → o.rate l node ≡ p.rate l node
   pub holds : (l : ℕ) → l < length net.link_names → o.holds l ≡ p.holds l
 
 module _ (net : Net) (network : IsNetwork net) (store : ℕ → ℕ) (o p : Opening) (agree : AgreeAt net o p) where
@@ -35,9 +35,9 @@ module _ (net : Net) (network : IsNetwork net) (store : ℕ → ℕ) (o p : Open
       let parts = (parts-of net network l inside).1 in
       let rooms : (a : ℕ) → has_room (turns_at net l) (λ e. store e - held_by net o goes e) a ≡ has_room (turns_at net l) (λ e. store e - held_by net p goes e) a = λ a.
       rooms-same (turns_at net l) (turns_at net l) (λ e. store e - held_by net o goes e) (λ e. store e - held_by net p goes e) a (λ i d h. ap (λ k. store (get_or (turns_at net l) i d).exit - k) (held-same goes (get_or (turns_at net l) i d).exit (parts.exits i d h))) in
-      ap (λ b. cond b (fitting (turns_at net l) (λ e. store e - held_by net o goes e) (min (link_at net l).sat (o.waits l))) 0) (agree.may_go l node inside is)
-      ∙ ap (λ w. cond (p.may_go l node) (fitting (turns_at net l) (λ e. store e - held_by net o goes e) (min (link_at net l).sat w)) 0) (agree.waits l inside)
-      ∙ (λ i. cond (p.may_go l node) (greatest (λ a. rooms a i) (min (link_at net l).sat (p.waits l))) 0)
+      ap (λ r. fitting (turns_at net l) (λ e. store e - held_by net o goes e) (min r (o.waits l))) (agree.rate l node inside is)
+      ∙ ap (λ w. fitting (turns_at net l) (λ e. store e - held_by net o goes e) (min (p.rate l node) w)) (agree.waits l inside)
+      ∙ (λ i. greatest (λ a. rooms a i) (min (p.rate l node) (p.waits l)))
 
   -- so the discharges are the same
   pub goes-same : (m : ℕ) → m ≤ length net.link_names → all_goes net store o m ≡ all_goes net store p m

@@ -1,5 +1,5 @@
 -- Where there is room for the whole wish, it is what fits; and where every link holds as much as may ever be on the road, there is.
-use Rattle.std.proofs.Common.{◌≡◌, ◌≢◌, ℕ, zero, suc, ◌+◌, ◌-◌, ◌<◌, ◌≤◌, Bool, true, min, cond, leb, List, [], ◌∷◌, ◌++◌, Option, Some, None, IsSome, All, length, map, get_or, slice_index, refl, sym, ap, ◌∙◌, inl, inr, add-one, arith}
+use Rattle.std.proofs.Common.{◌≡◌, ◌≢◌, ℕ, false, zero, suc, ◌+◌, ◌-◌, ◌<◌, ◌≤◌, Bool, true, min, cond, leb, List, [], ◌∷◌, ◌++◌, Option, Some, None, IsSome, All, length, map, get_or, slice_index, refl, sym, ap, ◌∙◌, inl, inr, add-one, arith}
 use Rattle.std.specs.List.{range_with_len, list_all}
 use Rattle.std.proofs.lemmas.Bool.{le-leb, cases_lt}
 use Rattle.std.proofs.lemmas.List.{get_or_past}
@@ -14,7 +14,7 @@ use Rattle.road_net.specs.Network.{IsNetwork}
 use Rattle.road_net.specs.Totals.{total}
 use Rattle.road_net.proofs.Everywhere.{everywhere}
 use Rattle.road_net.proofs.TotalLaws.{total-same, total-add, total-swap}
-use Rattle.net_simulator.specs.Flow.{Cumulative, waiting, discharge, discharge_to, may_go}
+use Rattle.net_simulator.specs.Flow.{Cumulative, waiting, discharge, discharge_to, may_go, rate}
 use Rattle.net_simulator.specs.Sums.{outward, on_road}
 use Rattle.net_simulator.proofs.Conserving.{onward, total-parts, grown}
 use Rattle.net_simulator.proofs.EveryWorld.{parts-of}
@@ -58,6 +58,11 @@ inward-none (Some node) = refl
 out-in : (to : Option ℕ) (a w on : ℕ) → a ≤ w → w ≤ on → inward to a + outward to w ≤ on
 out-in None a w on less there = omega arith
 out-in (Some node) a w on less there = omega arith
+
+-- where a link may not go it wishes nothing
+wish-is : (may : Bool) (r w : ℕ) → min (cond may r 0) w ≡ cond may (min r w) 0
+wish-is true r w = refl
+wish-is false r w = omega arith
 
 module _ (net : Net) (network : IsNetwork net) (shown : ℕ → ℕ → Sign) (past : ℕ → ℕ → Cumulative) (x : ℕ) (sound : IsSound net past x) (few : on_road net past x ≤ 2000000000) (travels : (l : ℕ) → l < length net.link_names → 1 ≤ (link_at net l).travel) where
   abbrev n : ℕ
@@ -167,14 +172,15 @@ module _ (net : Net) (network : IsNetwork net) (shown : ℕ → ℕ → Sign) (p
     goes-here : (m d : ℕ) → m + d ≡ n → m < n → (to : Option ℕ) → (link_at net m).to ≡ to → next_goes net store (opening net shown past x) (first m) m to ≡ discharge_to net shown past x m to
     goes-here m d whole inside None to = refl
     goes-here m d whole inside (Some node) to =
-        let wish = min (link_at net m).sat (waiting net past x m) in
+        let may = may_go net shown past x m node in
+        let wish = min (cond may (rate net shown past x m) 0) (waiting net past x m) in
         let exits = leave-to (turns_at net m) m node inside to refl in
         let fits = all-fit (turns_at net m) (turns_at net m) (λ e. store e - held m e) wish (λ i t h.
         let exit = exits i t h in
         let there = room-for m m node wish (get_or (turns_at net m) i t).exit d whole inside (omega arith) exit.0 (exit-other m node (get_or (turns_at net m) i t).exit inside to exit.1 exit.0) to (omega arith)
         (part-most m node wish (get_or (turns_at net m) i t).exit inside to exit.0) in
         omega (arith, there, wide (get_or (turns_at net m) i t).exit exit.0)) in
-        ap (λ a. cond (may_go net shown past x m node) a 0) (greatest-all (has_room (turns_at net m) (λ e. store e - held m e)) wish fits)
+        greatest-all (has_room (turns_at net m) (λ e. store e - held m e)) wish fits ∙ wish-is may (rate net shown past x m) (waiting net past x m)
 
     -- so all discharge what they would without bounds
     pub goes-all : (m d : ℕ) → m + d ≡ n → goes_of net store shown past x m ≡ first m

@@ -32,8 +32,7 @@ module _ (net : Net) (store : ℕ → ℕ) (o : Opening) where
   next-most : (goes : List ℕ) (l : ℕ) (to : Option ℕ) → next_goes net store o goes l to ≤ o.waits l
   next-most goes l None = omega arith
   next-most goes l (Some node) =
-      cond_both (o.may_go l node) (fitting (turns_at net l) (λ e. store e - held_by net o goes e) (min (link_at net l).sat (o.waits l))) 0 (λ a. a ≤ o.waits l)
-      (λ e. omega (arith, greatest-most (has_room (turns_at net l) (λ e. store e - held_by net o goes e)) (min (link_at net l).sat (o.waits l)))) (λ e. omega arith)
+      omega (arith, greatest-most (has_room (turns_at net l) (λ e. store e - held_by net o goes e)) (min (o.rate l node) (o.waits l)))
 
   pub goes-most : (n l : ℕ) → slice_index (first net store o n) l ≤ o.waits l
   goes-most zero l = omega (arith, past-last net store o 0 l (omega arith))

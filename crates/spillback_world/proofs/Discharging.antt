@@ -29,16 +29,16 @@ only-else l amount k other = elim (eqb_tells k l) [ inl p ↦ absurd (other p.1)
 only-none : (l k : ℕ) → only_at l 0 k ≡ 0
 only-none l k = cond_both (eqb k l) 0 0 (λ n. n ≡ 0) (λ e. refl) (λ e. refl)
 
-module _ (net : Net) (store : List ℕ) (served : List Bool) (l : ℕ) (lv qs en hs : List ℕ) (links : HaveLinks net store lv qs en hs served) (are : AreHeld net store qs en hs) where
+module _ (net : Net) (store : List ℕ) (rates : List ℕ) (l : ℕ) (lv qs en hs : List ℕ) (links : HaveLinks net store lv qs en hs rates) (are : AreHeld net store qs en hs) where
   -- a link that ends at no node does nothing more
-  pub discharge-out : (link_at net l).to ≡ None → turns_at net l ≡ [] → HasDischarged net store served l lv qs en hs lv qs en hs
+  pub discharge-out : (link_at net l).to ≡ None → turns_at net l ≡ [] → HasDischarged net store rates l lv qs en hs lv qs en hs
   discharge-out to plain =
       let none : (k : ℕ) → split_of (turns_at net l) (slice_index lv l) k ≡ 0 = λ k. split-none (turns_at net l) (slice_index lv l) k no_turn (λ i h. absurd (omega (arith, h, ap length plain))) in
       let still : (k : ℕ) → only_at l (inward (link_at net l).to (slice_index lv l)) k ≡ 0 = λ k. ap (λ o. only_at l (inward o (slice_index lv l)) k) to ∙ only-none l k in
       record {
         links = links;
         are = are;
-        here = sym (ap (discharge_of net store hs qs lv served l) to);
+        here = sym (ap (discharge_of net store hs qs lv rates l) to);
         others = λ k other. refl;
         waits = λ k. omega (arith, still k);
         enters = λ k. omega (arith, none k);
@@ -46,7 +46,7 @@ module _ (net : Net) (store : List ℕ) (served : List Bool) (l : ℕ) (lv qs en
       }
 
   -- another one discharges this amount
-  module _ (node amount : ℕ) (inside : l < length net.link_names) (to : (link_at net l).to ≡ Some node) (is : amount ≡ link_goes net store hs qs served l) (most : amount ≤ slice_index qs l)
+  module _ (node amount : ℕ) (inside : l < length net.link_names) (to : (link_at net l).to ≡ Some node) (is : amount ≡ link_goes net store hs qs rates l) (most : amount ≤ slice_index qs l)
       (fits : (k : ℕ) → split_of (turns_at net l) amount k ≤ room_of store hs k) where
     -- what is on it before its parts enter others
     abbrev less : List ℕ
@@ -68,7 +68,7 @@ module _ (net : Net) (store : List ℕ) (served : List Bool) (l : ℕ) (lv qs en
 
     pub discharge-in : (leaving queues entering held : List ℕ) → leaving ≡ slice_set lv l amount → queues ≡ slice_set qs l (slice_index qs l - amount) → length entering ≡ length net.link_names → length held ≡ length net.link_names
         → ((k : ℕ) → slice_index entering k ≡ slice_index en k + split_of (turns_at net l) amount k) → ((k : ℕ) → slice_index held k ≡ slice_index less k + split_of (turns_at net l) amount k)
-        → HasDischarged net store served l lv qs en hs leaving queues entering held
+        → HasDischarged net store rates l lv qs en hs leaving queues entering held
     discharge-in leaving queues entering held leaves waits long_entering long_held enters holds =
         let here : slice_index leaving l ≡ amount = ap (λ v. slice_index v l) leaves ∙ get_or-set_same lv l amount 0 (omega (arith, inside, links.leaving)) in
         let queue : (k : ℕ) → slice_index queues k + only_at l amount k ≡ slice_index qs k = λ k. elim (eqb_tells k l) [
@@ -84,13 +84,13 @@ module _ (net : Net) (store : List ℕ) (served : List Bool) (l : ℕ) (lv qs en
             queues = ap length waits ∙ length-set qs l (slice_index qs l - amount) ∙ links.queues;
             entering = long_entering;
             held = long_held;
-            served = links.served;
+            rates = links.rates;
           };
           are = record {
             there = λ k below. omega (arith, are.there k below, queue k, less-is k, enters k, holds k);
             within = λ k below. omega (arith, are.within k below, fits k, less-is k, holds k);
           };
-          here = here ∙ is ∙ sym (ap (discharge_of net store hs qs lv served l) to);
+          here = here ∙ is ∙ sym (ap (discharge_of net store hs qs lv rates l) to);
           others = λ k other. ap (λ v. slice_index v k) leaves ∙ get_or-set_other lv l k amount 0 other;
           waits = λ k. omega (arith, queue k, own k);
           enters = λ k. omega (arith, enters k, part k);
@@ -101,11 +101,11 @@ inward-zero : (to : Option ℕ) (a : ℕ) → a ≡ 0 → inward to a ≡ 0
 inward-zero None a none = refl
 inward-zero (Some node) a none = none
 
-module _ (net : Net) (store : List ℕ) (served : List Bool) (lv qs en hs : List ℕ) where
+module _ (net : Net) (store : List ℕ) (rates : List ℕ) (lv qs en hs : List ℕ) where
   abbrev o : Opening
-  o = opening_by qs lv served hs
+  o = opening_by qs lv rates hs
 
-  pub discharged-none : HaveLinks net store lv qs en hs served → AreHeld net store qs en hs → HaveDischarged net store served 0 lv qs en hs lv qs en hs
+  pub discharged-none : HaveLinks net store lv qs en hs rates → AreHeld net store qs en hs → HaveDischarged net store rates 0 lv qs en hs lv qs en hs
   discharged-none links are =
       let nothing : (k : ℕ) → inward (link_at net k).to (slice_index (first net (slice_index store) o 0) k) ≡ 0 = λ k. inward-zero (link_at net k).to _ (past-last net (slice_index store) o 0 k (omega arith)) in
       record {
@@ -118,22 +118,22 @@ module _ (net : Net) (store : List ℕ) (served : List Bool) (lv qs en hs : List
         holds = λ k. omega (arith, nothing k);
       }
 
-  module _ (left : HaveLeft net qs lv) (n : ℕ) (inside : n < length net.link_names) (lv1 qs1 en1 hs1 : List ℕ) (before : HaveDischarged net store served n lv qs en hs lv1 qs1 en1 hs1) where
+  module _ (left : HaveLeft net qs lv) (n : ℕ) (inside : n < length net.link_names) (lv1 qs1 en1 hs1 : List ℕ) (before : HaveDischarged net store rates n lv qs en hs lv1 qs1 en1 hs1) where
     own-none : slice_index (first net (slice_index store) o n) n ≡ 0
     own-none = past-last net (slice_index store) o n n (omega arith)
 
     rooms : (k : ℕ) → room_of store hs1 k ≡ slice_index store k - held_by net o (first net (slice_index store) o n) k
     rooms k = omega (arith, before.holds k, held-given net (slice_index store) o n k)
 
-    goes-next : (to : Option ℕ) → (link_at net n).to ≡ to → discharge_of net store hs1 qs1 lv1 served n to ≡ next_goes net (slice_index store) o (first net (slice_index store) o n) n to
+    goes-next : (to : Option ℕ) → (link_at net n).to ≡ to → discharge_of net store hs1 qs1 lv1 rates n to ≡ next_goes net (slice_index store) o (first net (slice_index store) o n) n to
     goes-next None to = omega (arith, before.rest n (omega arith), left.out n inside to)
     goes-next (Some node) to =
         let queue : slice_index qs1 n ≡ slice_index qs n + slice_index lv n = omega (arith, before.waits n, inward-zero (link_at net n).to _ own-none, left.stays n node inside to) in
-        ap (λ q. cond (get_or served n false) (fitting (turns_at net n) (room_of store hs1) (min (link_at net n).sat q)) 0) queue
-        ∙ ap (λ r. cond (get_or served n false) (fitting (turns_at net n) r (min (link_at net n).sat (slice_index qs n + slice_index lv n))) 0) (λ i k. rooms k i)
+        ap (λ q. fitting (turns_at net n) (room_of store hs1) (min (slice_index rates n) q)) queue
+        ∙ ap (λ r. fitting (turns_at net n) r (min (slice_index rates n) (slice_index qs n + slice_index lv n))) (λ i k. rooms k i)
 
     -- one link more
-    pub discharged-more : (leaving queues entering held : List ℕ) → HasDischarged net store served n lv1 qs1 en1 hs1 leaving queues entering held → HaveDischarged net store served (suc n) lv qs en hs leaving queues entering held
+    pub discharged-more : (leaving queues entering held : List ℕ) → HasDischarged net store rates n lv1 qs1 en1 hs1 leaving queues entering held → HaveDischarged net store rates (suc n) lv qs en hs leaving queues entering held
     discharged-more leaving queues entering held step =
         let here : slice_index leaving n ≡ last net (slice_index store) o n = step.here ∙ goes-next (link_at net n).to refl in
         let added : (k : ℕ) → split_of (turns_at net n) (slice_index leaving n) k ≡ split_of (turns_at net n) (last net (slice_index store) o n) k = λ k. ap (λ a. split_of (turns_at net n) a k) here in

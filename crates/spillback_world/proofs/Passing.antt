@@ -1,13 +1,13 @@
 -- A world that stands for its past stands for it one second later.
-use Rattle.std.proofs.Common.{◌≡◌, ◌≢◌, ℕ, suc, ◌+◌, ◌-◌, ◌%◌, ◌<◌, ◌≤◌, Bool, false, min, List, Option, Some, None, length, slice_index, slice_index_or, refl, sym, ap, subst, ◌∙◌, add-one, arith}
+use Rattle.std.proofs.Common.{◌≡◌, ◌≢◌, ℕ, suc, ◌+◌, ◌-◌, ◌%◌, ◌<◌, ◌≤◌, Bool, min, List, Option, Some, None, length, slice_index, slice_index_or, refl, sym, ap, subst, ◌∙◌, add-one, arith, cond}
 use Rattle.net_parts.specs.Numbers.{Net}
 use Rattle.net_parts.specs.Outline.{link_at, turns_at}
 use Rattle.road_net.specs.Joins.{split_of}
 use Rattle.road_net.specs.Network.{IsNetwork}
 use Rattle.road_net.specs.Totals.{total}
 use Rattle.road_net.proofs.TotalLaws.{total-same, total-le, total-swap, total-zero}
-use Rattle.net_simulator.specs.Flow.{Cumulative, queue, waiting}
-use Rattle.net_simulator.specs.LinkSeconds.{is_open, stands_on, waits_at}
+use Rattle.net_simulator.specs.Flow.{Cumulative, may_go, queue, rate, waiting}
+use Rattle.net_simulator.specs.LinkSeconds.{is_open, rate_by, stands_on, waits_at}
 use Rattle.net_simulator.specs.LinkGreens.{is_green, last_sign, lit_since}
 use Rattle.net_simulator.specs.Moves.{Moves}
 use Rattle.net_simulator.specs.Rows.{cell}
@@ -16,7 +16,7 @@ use Rattle.net_simulator.specs.Sums.{AreFew, total_left, outward}
 use Rattle.net_simulator.specs.Worlds.{AreShown, Keeps}
 use Rattle.net_simulator.proofs.Conserving.{come, grown, left-entered}
 use Rattle.net_simulator.proofs.EveryWorld.{are-sound, bounds-of, gone-more, queue-still, queues-most}
-use Rattle.net_simulator.proofs.Keeping.{keeps-next, kept-queue, open-same, waits-same}
+use Rattle.net_simulator.proofs.Keeping.{keeps-next, kept-queue, open-same, rate-seen, waits-same}
 use Rattle.net_simulator.proofs.MoveLaws.{moves_by, cumulative_by}
 use Rattle.net_simulator.proofs.Outside.{comes-none, comes-within, few-come, only-comes}
 use Rattle.net_simulator.proofs.Passing.{lights-parts}
@@ -25,7 +25,7 @@ use Rattle.net_simulator.proofs.Standing.{stood-kept, stood-most, stood-next}
 use Rattle.net_simulator.proofs.Sums.{total-most, total-of, total-part}
 use Rattle.spillback_world.specs.declared.totals.SpillTotals.{SpillTotals}
 use Rattle.spillback_world.specs.StoredTotals.{outside_all, stored_totals}
-use Rattle.spillback_world.specs.Steps.{AreHeld, HaveDischarged, HaveLeft, comes_of, first_given, first_goes, opening_by, served_at}
+use Rattle.spillback_world.specs.Steps.{AreHeld, HaveDischarged, HaveLeft, comes_of, first_given, first_goes, opening_by, rate_at}
 use Rattle.spillback_world.specs.Storage.{goes_of, held_after, inward, opening, outside, stored_moves}
 use Rattle.spillback_world.specs.Worlds.{HasShape, SpillState, Stands}
 use Rattle.spillback_world.proofs.Agreeing.{AgreeAt, goes-same}
@@ -49,9 +49,9 @@ same-totals s t a b c d e = λ i. record { entered = a i; left = b i; on = c i; 
 -- a world that stands, by lists that are those that it keeps
 pub stands-seen : (net : Net) (arriving : ℕ → ℕ → ℕ) (store : ℕ → ℕ) (shown : ℕ → ℕ → Sign) (w : SpillState) (qs rs ws ss os hs : List ℕ)
     → qs ≡ w.queues → rs ≡ w.recent → ws ≡ w.waits → ss ≡ w.stood → os ≡ w.outside → hs ≡ w.held → Stands net arriving store shown w
-    → Stands net arriving store shown (record { second = w.second; signs = w.signs; since = w.since; queues = qs; recent = rs; waits = ws; stood = ss; outside = os; held = hs; totals = w.totals })
+    → Stands net arriving store shown (record { second = w.second; signs = w.signs; since = w.since; walks = w.walks; queues = qs; recent = rs; waits = ws; stood = ss; outside = os; held = hs; totals = w.totals })
 stands-seen net arriving store shown w qs rs ws ss os hs a b c d e f stands =
-    subst (Stands net arriving store shown) (λ i. record { second = w.second; signs = w.signs; since = w.since; queues = sym a i; recent = sym b i; waits = sym c i; stood = sym d i; outside = sym e i; held = sym f i; totals = w.totals }) stands
+    subst (Stands net arriving store shown) (λ i. record { second = w.second; signs = w.signs; since = w.since; walks = w.walks; queues = sym a i; recent = sym b i; waits = sym c i; stood = sym d i; outside = sym e i; held = sym f i; totals = w.totals }) stands
 
 out-none : (to : Option ℕ) (w q v : ℕ) → to ≡ None → v ≡ outward to w → q ≡ w - v → q ≡ 0
 out-none None w q v e goes queue = omega (arith, goes, queue)
@@ -75,12 +75,12 @@ entering-held net store queues entering held are l h = omega (arith, are.there l
 
 -- What has been done when the links discharge: the lists of what leaves, of the queues, of what enters and of what is held, and which
 -- links may discharge where the nodes show these signs.
-pub record IsBegun (net : Net) (w : SpillState) (signs : List Sign) (since : List ℕ) (served : List Bool) (lv1 qs1 en1 hs1 : List ℕ) : Type 0 where
+pub record IsBegun (net : Net) (w : SpillState) (signs : List Sign) (since : List ℕ) (rates : List ℕ) (lv1 qs1 en1 hs1 : List ℕ) : Type 0 where
   pub leaving : (l : ℕ) → l < length net.link_names → slice_index lv1 l ≡ outward (link_at net l).to (waits_at net w.queues w.recent w.second l)
   pub queues : (l : ℕ) → l < length net.link_names → slice_index qs1 l ≡ waits_at net w.queues w.recent w.second l - slice_index lv1 l
   pub held : (l : ℕ) → l < length net.link_names → slice_index hs1 l ≡ slice_index w.held l - slice_index lv1 l
   pub none : (l : ℕ) → l < length net.link_names → slice_index en1 l ≡ 0
-  pub serves : (l : ℕ) → l < length net.link_names → slice_index_or served l false ≡ served_at net w.waits signs since w.second l (link_at net l).to
+  pub serves : (l : ℕ) → l < length net.link_names → slice_index rates l ≡ rate_at net w.waits signs since qs1 w.second l (link_at net l).to
 
 -- What the code has done after that in the second, by the lists of what enters and of what is held once all have discharged.
 pub record IsEnded (net : Net) (arriving : ℕ → ℕ) (store : List ℕ) (w : SpillState) (qs en hs : List ℕ) (v : SpillState) : Type 0 where
@@ -155,7 +155,7 @@ module _ (net : Net) (network : IsNetwork net) (arriving : ℕ → ℕ → ℕ) 
       omega (arith, queues, links, outside-most P (y + 1))) in
       omega (arith, each, total-of 642000000000 x, stands.by, ap (λ (t : SpillTotals). t.delay) stands.totals)
 
-  module _ (signs : List Sign) (since : List ℕ) (served : List Bool) (lv1 qs1 en1 hs1 : List ℕ) (begun : IsBegun net w signs since served lv1 qs1 en1 hs1) where
+  module _ (signs : List Sign) (since : List ℕ) (rates : List ℕ) (lv1 qs1 en1 hs1 : List ℕ) (begun : IsBegun net w signs since rates lv1 qs1 en1 hs1) where
     -- what waits and what is held, as the links discharge
     pub are-held : AreHeld net store qs1 en1 hs1
     are-held = record {
@@ -165,26 +165,37 @@ module _ (net : Net) (network : IsNetwork net) (arriving : ℕ → ℕ → ℕ) 
 
     module _ (early : w.second < 18000) (lit : (l : ℕ) → l < length net.link_names → slice_index since l ≡ lit_since (is_green net shown l) (w.second + 1))
         (seen : (n : ℕ) → n < length net.node_names → shown w.second n ≡ slice_index_or signs n Dark) where
-      agree : AgreeAt net (opening_by qs1 lv1 served hs1) (opening net shown P w.second)
+      -- what a link discharges at the most; those to which it gives way end at its node, so that nothing of what waits there has left
+      rate-at : (l : ℕ) → rate_by net since qs1 w.second l ≡ rate net shown P w.second l
+      rate-at l =
+          rate-seen net x P w.queues w.recent w.waits (bounds-of net network) (sound x) stands.keeps shown since qs1 (omega (arith, early)) lit
+          (λ k node h to.
+          let stays : outward (link_at net k).to (waits_at net w.queues w.recent w.second k) ≡ 0 = ap (λ (o : Option ℕ). outward o (waits_at net w.queues w.recent w.second k)) to in
+          omega (arith, begun.queues k h, begun.leaving k h, stays, waits-now k h))
+          l
+
+      agree : AgreeAt net (opening_by qs1 lv1 rates hs1) (opening net shown P w.second)
       agree = record {
         waits = λ l h. omega (arith, begun.queues l h, begun.leaving l h, waits-now l h, outward-most (link_at net l).to (waits_at net w.queues w.recent w.second l));
-        may_go = λ l node h to.
+        rate = λ l node h to.
             let there = (bounds-of net network).ends l node h to in
-            begun.serves l h ∙ ap (served_at net w.waits signs since w.second l) to
-            ∙ ap (is_open net w.waits since w.second l node) (sym (seen node there))
-            ∙ open-same net x P w.queues w.recent w.waits (bounds-of net network) (sound x) stands.keeps shown since l node h to (omega (arith, early)) (lit l h);
+            let may = ap (is_open net w.waits since w.second l node) (sym (seen node there))
+            ∙ open-same net x P w.queues w.recent w.waits (bounds-of net network) (sound x) stands.keeps shown since l node h to (omega (arith, early)) (lit l h) in
+            begun.serves l h ∙ ap (rate_at net w.waits signs since qs1 w.second l) to
+            ∙ ap (λ (b : Bool). cond b (rate_by net since qs1 w.second l) 0) may
+            ∙ ap (λ r. cond (may_go net shown P w.second l node) r 0) (rate-at l);
         holds = λ l h. omega (arith, begun.held l h, begun.leaving l h, stands.held l h, ap (outward (link_at net l).to) (waits-now l h));
       }
 
-      module _ (lv qs en hs : List ℕ) (done : HaveDischarged net store served (length net.link_names) lv1 qs1 en1 hs1 lv qs en hs) where
-        same : first_goes net store served (length net.link_names) lv1 qs1 hs1 ≡ goes_of net (slice_index store) shown P w.second (length net.link_names)
-        same = goes-same net network (slice_index store) (opening_by qs1 lv1 served hs1) (opening net shown P w.second) agree (length net.link_names) (omega arith)
+      module _ (lv qs en hs : List ℕ) (done : HaveDischarged net store rates (length net.link_names) lv1 qs1 en1 hs1 lv qs en hs) where
+        same : first_goes net store rates (length net.link_names) lv1 qs1 hs1 ≡ goes_of net (slice_index store) shown P w.second (length net.link_names)
+        same = goes-same net network (slice_index store) (opening_by qs1 lv1 rates hs1) (opening net shown P w.second) agree (length net.link_names) (omega arith)
 
         goes-are : (l : ℕ) → l < length net.link_names → slice_index lv l ≡ (moves x).goes l
         goes-are l h = done.goes l h ∙ ap (λ g. slice_index g l) same
 
         -- what leaves the network, and what goes into other links, is all that a link discharges
-        whole : (l : ℕ) → l < length net.link_names → outward (link_at net l).to (waits_at net w.queues w.recent x l) + inward (link_at net l).to (slice_index (first_goes net store served (length net.link_names) lv1 qs1 hs1) l) ≡ slice_index lv l
+        whole : (l : ℕ) → l < length net.link_names → outward (link_at net l).to (waits_at net w.queues w.recent x l) + inward (link_at net l).to (slice_index (first_goes net store rates (length net.link_names) lv1 qs1 hs1) l) ≡ slice_index lv l
         whole l h =
             let own = own-goes net network arriving (slice_index store) shown x l h (link_at net l).to refl in
             let into = ap (λ g. inward (link_at net l).to (slice_index g l)) same in
@@ -197,7 +208,7 @@ module _ (net : Net) (network : IsNetwork net) (arriving : ℕ → ℕ → ℕ) 
         abbrev parts : ℕ → ℕ
         parts l = total (λ k. split_of (turns_at net k) ((moves x).goes k) l) (length net.link_names)
 
-        given-are : (l : ℕ) → first_given net store served (length net.link_names) lv1 qs1 hs1 l ≡ parts l
+        given-are : (l : ℕ) → first_given net store rates (length net.link_names) lv1 qs1 hs1 l ≡ parts l
         given-are l = ap (λ g. total (λ k. split_of (turns_at net k) (slice_index g k) l) (length net.link_names)) same
 
         held-are : (l : ℕ) → l < length net.link_names → slice_index hs l ≡ held_after net shown P x (goes_of net (slice_index store) shown P w.second (length net.link_names)) l

@@ -1,9 +1,9 @@
 -- What a node sees, by what a world keeps; and the empty world.
-use Rattle.std.proofs.Common.{◌≡◌, ℕ, ◌+◌, ◌-◌, ◌*◌, ◌%◌, ◌<◌, ◌≤◌, List, All, Option, Some, None, length, map, replicate, slice_index, slice_index_or, refl, sym, ap, ◌∙◌, arith}
+use Rattle.std.proofs.Common.{◌≡◌, ℕ, ◌+◌, ◌-◌, ◌*◌, ◌%◌, ◌<◌, ◌≤◌, Bool, List, All, Option, Some, None, length, map, replicate, slice_index, slice_index_or, refl, sym, ap, ◌∙◌, arith}
 use Rattle.std.specs.List.Sorted.{IsStrictlyIncreasing}
 use Rattle.std.proofs.lemmas.List.{get_or-replicate, length-replicate}
 use Rattle.control_flow.specs.declared.greens.Sign.TheVariants.{Dark}
-use Rattle.net_simulator.specs.LinkGreens.{never}
+use Rattle.net_simulator.specs.LinkGreens.{has_walks, never}
 use Rattle.net_parts.specs.Numbers.{Net}
 use Rattle.net_parts.specs.Outline.{link_at}
 use Rattle.road_net.specs.declared.senses.LinkSense.{LinkSense}
@@ -69,9 +69,9 @@ outward-none : (to : Option ℕ) (a : ℕ) → a ≡ 0 → outward to a ≡ 0
 outward-none None a none = none
 outward-none (Some node) a none = refl
 
-pub stands-new : (net : Net) (arriving : ℕ → ℕ → ℕ) (store : ℕ → ℕ) (shown : ℕ → ℕ → Sign) (gs : List Sign) (fs : List ℕ) (n : ℕ) (links : Links) → AreEmpty n links → n ≡ length net.link_names → gs ≡ replicate (length net.node_names) Dark → fs ≡ replicate (length net.link_names) never
-    → Stands net arriving store shown (state_of links 0 gs fs (record { entered = 0; left = 0; on = 0; outside = 0; delay = 0 }))
-stands-new net arriving store shown gs fs n links empty long dark none_green =
+pub stands-new : (net : Net) (arriving : ℕ → ℕ → ℕ) (store : ℕ → ℕ) (shown : ℕ → ℕ → Sign) (gs : List Sign) (fs : List ℕ) (walks : Bool) (n : ℕ) (links : Links) → AreEmpty n links → n ≡ length net.link_names → gs ≡ replicate (length net.node_names) Dark → fs ≡ replicate (length net.link_names) never → walks ≡ has_walks net
+    → Stands net arriving store shown (state_of links 0 gs fs walks (record { entered = 0; left = 0; on = 0; outside = 0; delay = 0 }))
+stands-new net arriving store shown gs fs walks n links empty long dark none_green walked =
     let P : ℕ → ℕ → Cumulative = cumulative_in net arriving store shown 0 in
     let none : (k l : ℕ) → P k l ≡ nothing = λ k l. zero-by net (stored_moves net arriving store shown) k l in
     let in-none : (k l : ℕ) → (P k l).entered ≡ 0 = λ k l. ap (λ (q : Cumulative). q.entered) (none k l) in
@@ -85,7 +85,7 @@ stands-new net arriving store shown gs fs n links empty long dark none_green =
     let on = total-same (λ l. (P 0 l).entered - (P 0 l).left) (λ l. 0) (length net.link_names) (λ l h. omega (arith, in-none 0 l)) ∙ total-zero (length net.link_names) in
     let waits = total-same (outside arriving P 0) (λ l. 0) (length net.link_names) (λ l h. omega arith) ∙ total-zero (length net.link_names) in
     record {
-      shape = record { signs = ap length dark ∙ length-replicate (length net.node_names) Dark; since = ap length none_green ∙ length-replicate (length net.link_names) never; queues = one _ empty.queues; recent = rows _ empty.recent; waits = rows _ empty.waits; stood = one _ empty.stood; outside = one _ empty.outside; held = one _ empty.held };
+      shape = record { signs = ap length dark ∙ length-replicate (length net.node_names) Dark; since = ap length none_green ∙ length-replicate (length net.link_names) never; walks = walked; queues = one _ empty.queues; recent = rows _ empty.recent; waits = rows _ empty.waits; stood = one _ empty.stood; outside = one _ empty.outside; held = one _ empty.held };
       by = omega arith;
       keeps = record {
         queues = λ l h. omega (arith, zero-at _ n empty.queues l, in-none (0 - (link_at net l).travel) l);

@@ -3,12 +3,12 @@ use Rattle.std.proofs.Common.{◌≡◌, ℕ, zero, suc, ◌<◌, ◌-◌, Bool,
 use Rattle.net_parts.specs.Numbers.{Net}
 use Rattle.net_parts.specs.Outline.{link_at, turns_at}
 use Rattle.road_net.specs.Network.{IsNetwork}
-use Rattle.net_simulator.specs.Flow.{Cumulative, passed_in, waiting}
+use Rattle.net_simulator.specs.Flow.{Cumulative, passed_in, waiting, may_go, rate}
 use Rattle.net_simulator.specs.Moves.{history_by}
 use Rattle.net_simulator.specs.Senses.{stood}
 use Rattle.net_simulator.specs.Worlds.{Keeps}
 use Rattle.net_simulator.proofs.AtNodes.{alike-at-nodes}
-use Rattle.net_simulator.proofs.LightLaws.{AreAlike, alike-shown, are-shown-same, may-same}
+use Rattle.net_simulator.proofs.LightLaws.{AreAlike, alike-shown, are-shown-same, may-same, rate-same}
 use Rattle.net_simulator.proofs.MoveLaws.{MoveAlike, by-same}
 use Rattle.spillback_world.specs.Filling.{fitting}
 use Rattle.spillback_world.specs.StoredTotals.{stored_totals}
@@ -20,7 +20,9 @@ module _ (net : Net) (store : ℕ → ℕ) (one other : ℕ → ℕ → Sign) (n
   next-same : (goes : List ℕ) (l : ℕ) (to : Option ℕ) → (link_at net l).to ≡ to → next_goes net store (opening net one past x) goes l to ≡ next_goes net store (opening net other past x) goes l to
   next-same goes l None to = refl
   next-same goes l (Some node) to =
-      ap (λ (b : Bool). cond b (fitting (turns_at net l) (λ e. store e - held_by net (opening net one past x) goes e) (min (link_at net l).sat (waiting net past x l))) 0) (may-same net n one other alike past x l node early to)
+      let rates : cond (may_go net one past x l node) (rate net one past x l) 0 ≡ cond (may_go net other past x l node) (rate net other past x l) 0 =
+      ap (λ (b : Bool). cond b (rate net one past x l) 0) (may-same net n one other alike past x l node early to) ∙ ap (λ a. cond (may_go net other past x l node) a 0) (rate-same net n one other alike past x l early) in
+      ap (λ r. fitting (turns_at net l) (λ e. store e - held_by net (opening net one past x) goes e) (min r (waiting net past x l))) rates
 
   goes-same : (m : ℕ) → goes_of net store one past x m ≡ goes_of net store other past x m
   unfolding all_goes

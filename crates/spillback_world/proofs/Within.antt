@@ -64,8 +64,7 @@ module _ (net : Net) (store : ℕ → ℕ) (o : Opening) where
   pub into-room : (goes : List ℕ) (l e : ℕ) (to : Option ℕ) → (link_at net l).to ≡ to → ((link_at net l).to ≡ None → turns_at net l ≡ []) → split_of (turns_at net l) (next_goes net store o goes l to) e ≤ room goes e
   into-room goes l e None is plain = let none = split-none (turns_at net l) (next_goes net store o goes l None) e no_turn (λ i h. absurd (omega (arith, h, ap length (plain is)))) in omega (arith, none)
   into-room goes l e (Some node) is plain =
-      cond_both (o.may_go l node) (fitting (turns_at net l) (room goes) (min (link_at net l).sat (o.waits l))) 0 (λ a. split_of (turns_at net l) a e ≤ room goes e)
-      (λ yes. fitting-fits (turns_at net l) (room goes) (min (link_at net l).sat (o.waits l)) e) (λ no. omega (arith, split-zero (turns_at net l) e))
+      fitting-fits (turns_at net l) (room goes) (min (o.rate l node) (o.waits l)) e
 
   -- the discharges of the first links, and one more
   abbrev pub first : ℕ → List ℕ

@@ -1,9 +1,10 @@
 -- What moves in a world in which a full link holds back those who want to enter it.
-use Rattle.std.specs.Prelude.{ℕ, zero, suc, ◌+◌, ◌-◌, ◌≤◌, ◌<◌, min, Bool, if◌then◌else◌, List, [], ◌∷◌, ◌++◌, Option, Some, None, length, slice_index}
+use Rattle.std.specs.Prelude.{ℕ, zero, suc, ◌+◌, ◌-◌, ◌≤◌, ◌<◌, min, if◌then◌else◌, List, [], ◌∷◌, ◌++◌, Option, Some, None, length, slice_index}
 use Rattle.net_parts.specs.Numbers.{Net}
 use Rattle.net_parts.specs.Outline.{link_at, turns_at}
 use Rattle.road_net.specs.Joins.{split_of}
 use Rattle.road_net.specs.Totals.{total}
+use Rattle.net_simulator.specs.Flow as flow
 use Rattle.net_simulator.specs.Flow.{Cumulative, passed_in, waiting, may_go}
 use Rattle.net_simulator.specs.Moves.{Moves, history_by}
 use Rattle.net_simulator.specs.Sums.{outward}
@@ -17,11 +18,11 @@ abbrev pub inward : Option ℕ → ℕ → ℕ
 inward None amount = 0
 inward (Some node) amount = amount
 
--- How a second begins, once what leaves the network has left: what waits at the end of each link, whether a link may discharge at
--- the node where it ends, and what is on each link.
+-- How a second begins, once what leaves the network has left: what waits at the end of each link, how much a link may discharge at the
+-- most at the node where it ends, and what is on each link.
 pub record Opening : Type 0 where
   pub waits : ℕ → ℕ
-  pub may_go : ℕ → ℕ → Bool
+  pub rate : ℕ → ℕ → ℕ
   pub holds : ℕ → ℕ
 
 -- what is on link l once the first links have discharged
@@ -32,7 +33,7 @@ held_by net o goes l = o.holds l + total (λ k. split_of (turns_at net k) (slice
 -- what it would discharge into links without bounds for whose parts there is room
 abbrev pub next_goes : Net → (ℕ → ℕ) → Opening → List ℕ → ℕ → Option ℕ → ℕ
 next_goes net store o goes l None = o.waits l
-next_goes net store o goes l (Some node) = if o.may_go l node then fitting (turns_at net l) (λ e. store e - held_by net o goes e) (min (link_at net l).sat (o.waits l)) else 0
+next_goes net store o goes l (Some node) = fitting (turns_at net l) (λ e. store e - held_by net o goes e) (min (o.rate l node) (o.waits l))
 
 -- the discharges of the first n links, one after another
 unfoldable pub all_goes : Net → (ℕ → ℕ) → Opening → ℕ → List ℕ
@@ -51,7 +52,7 @@ first_out net past x l = outward (link_at net l).to (waiting net past x l)
 abbrev pub opening : Net → (ℕ → ℕ → Sign) → (ℕ → ℕ → Cumulative) → ℕ → Opening
 opening net shown past x = record {
   waits = waiting net past x;
-  may_go = λ l node. may_go net shown past x l node;
+  rate = λ l node. if may_go net shown past x l node then flow.rate net shown past x l else 0;
   holds = λ l. (past x l).entered - (past x l).left - first_out net past x l;
 }
 

@@ -1,10 +1,11 @@
 -- What a world whose links hold so much and no more stands for.
-use Rattle.std.specs.Prelude.{◌≡◌, ℕ, ◌-◌, ◌*◌, ◌<◌, ◌≤◌, List, length, slice_index}
+use Rattle.std.specs.Prelude.{◌≡◌, ℕ, ◌-◌, ◌*◌, ◌<◌, ◌≤◌, Bool, List, length, slice_index}
 use Rattle.net_parts.specs.Limits.{most_seconds}
 use Rattle.control_flow.specs.declared.greens.Green.{Green}
 use Rattle.arrivals.specs.Amounts.{Amounts, AreArrivals, arriving_of}
 use Rattle.net_parts.specs.Numbers.{Net}
 use Rattle.net_simulator.specs.Rows.{kept_seconds}
+use Rattle.net_simulator.specs.LinkGreens.{has_walks}
 use Rattle.net_simulator.specs.Senses.{stood}
 use Rattle.net_simulator.specs.Worlds.{AreShown, Keeps, signs_by}
 use Rattle.spillback_world.specs.declared.totals.SpillTotals.{SpillTotals}
@@ -12,12 +13,13 @@ use Rattle.spillback_world.specs.StoredTotals.{stored_totals}
 use Rattle.spillback_world.specs.Storage.{outside, cumulative_in}
 use Rattle.control_flow.specs.declared.greens.Sign.{Sign}
 
--- what a world keeps: its second, the last sign of each node, and for each link since when it is green, its queue, rows of what entered it and of its
+-- what a world keeps: its second, the last sign of each node, whether a link of the network has a walk, and for each link since when it is green, its queue, rows of what entered it and of its
 -- queues, for how long a queue has stood, what waits outside of it, what is on it, and what is counted
 pub record SpillState : Type 0 where
   pub second : ℕ
   pub signs : List Sign
   pub since : List ℕ
+  pub walks : Bool
   pub queues : List ℕ
   pub recent : List ℕ
   pub waits : List ℕ
@@ -30,6 +32,7 @@ pub record SpillState : Type 0 where
 pub record HasShape (net : Net) (w : SpillState) : Type 0 where
   pub signs : length w.signs ≡ length net.node_names
   pub since : length w.since ≡ length net.link_names
+  pub walks : w.walks ≡ has_walks net
   pub queues : length w.queues ≡ length net.link_names
   pub recent : length w.recent ≡ length net.link_names * kept_seconds
   pub waits : length w.waits ≡ length net.link_names * kept_seconds

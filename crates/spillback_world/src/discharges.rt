@@ -11,12 +11,12 @@ use crate::searches::allowed;
 use crate::store::Store;
 use road_net::{Network, part_of_turn};
 
-/// Where links discharge: the network, how much its links can hold, and which of them may discharge in this second.
+/// Where links discharge: the network, how much its links can hold, and how much each may discharge in this second.
 #[derive(Drop)]
 pub(crate) struct Site<'a> {
     pub(crate) net: &'a Network,
     pub(crate) store: &'a Store,
-    pub(crate) served: &'a [bool],
+    pub(crate) rates: &'a [u32],
 }
 
 /// Adds the parts of what link `l` discharges to the amounts of its exits.
@@ -44,17 +44,14 @@ fn amount_of(queues: &[u32], held: &[u32], site: &Site, l: u32) -> u32
     requires store { length site.now.store.now ≡ length site.now.net.now.link_names }
     requires queues { length queues.now ≡ length site.now.net.now.link_names }
     requires held { length held.now ≡ length site.now.net.now.link_names }
-    requires served { length site.now.served.now ≡ length site.now.net.now.link_names }
-    ensures value { result ≡ link_goes site.now.net.now site.now.store.now held.now queues.now site.now.served.now l }
+    requires rates { length site.now.rates.now ≡ length site.now.net.now.link_names }
+    ensures value { result ≡ link_goes site.now.net.now site.now.store.now held.now queues.now site.now.rates.now l }
     ensures most { result ≤ slice_index queues.now l }
     ensures fits { (k : ℕ) → split_of (turns_at site.now.net.now l) result k ≤ room_of site.now.store.now held.now k }
     ensures bounds { All IsStorage site.now.store.now }
 {
     law_of_storages(site.store, l);
-    if !site.served[l as usize] {
-        return 0;
-    }
-    let wish = site.net.link(l).sat.min(queues[l as usize]);
+    let wish = site.rates[l as usize].min(queues[l as usize]);
     allowed(site.net, site.store, held, l, wish)
 }
 
@@ -78,9 +75,9 @@ fn discharge_link(
 )
     requires link { l < length site.now.net.now.link_names }
     requires links { HaveLinks site.now.net.now site.now.store.now leaving.old queues.old entering.old held.old
-        site.now.served.now }
+        site.now.rates.now }
     requires held { AreHeld site.now.net.now site.now.store.now queues.old entering.old held.old }
-    ensures { HasDischarged site.now.net.now site.now.store.now site.now.served.now l
+    ensures { HasDischarged site.now.net.now site.now.store.now site.now.rates.now l
         leaving.old queues.old entering.old held.old leaving.new queues.new entering.new held.new }
 {
     if site.net.link(l).to.is_none() {
@@ -104,10 +101,10 @@ pub(crate) fn discharge(
     site: &Site,
 )
     requires links { HaveLinks site.now.net.now site.now.store.now leaving.old queues.old entering.old held.old
-        site.now.served.now }
+        site.now.rates.now }
     requires held { AreHeld site.now.net.now site.now.store.now queues.old entering.old held.old }
     requires left { HaveLeft site.now.net.now queues.old leaving.old }
-    ensures { HaveDischarged site.now.net.now site.now.store.now site.now.served.now
+    ensures { HaveDischarged site.now.net.now site.now.store.now site.now.rates.now
         (length site.now.net.now.link_names) leaving.old queues.old entering.old held.old
         leaving.new queues.new entering.new held.new }
 {

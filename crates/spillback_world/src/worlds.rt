@@ -26,7 +26,7 @@ use control_flow::greens::Sign;
 use foundation::items::Items;
 use foundation::threads::CrossesThreads;
 use net_simulator::Lights;
-use net_simulator::link_seconds::{Shown, look, remember};
+use net_simulator::link_seconds::{Shown, has_walks, look, remember};
 use net_simulator::sensing::{Sight, near_amount, sense_links};
 use net_simulator::starts::{no_greens, no_signs, zeros};
 use road_net::{Network, Sensed, law_of_network};
@@ -44,7 +44,7 @@ pub(crate) struct Links {
     pub(crate) held: Vec<u32>,
     pub(crate) leaving: Vec<u32>,
     pub(crate) entering: Vec<u32>,
-    pub(crate) served: Vec<bool>,
+    pub(crate) rates: Vec<u32>,
 }
 
 /// The vehicles on the links of a network, each of which holds so much and no more, at a second.
@@ -59,6 +59,7 @@ pub struct SpillWorld {
     links: Links,
     signs: Vec<Sign>,
     since: Vec<u32>,
+    walks: bool,
     totals: SpillTotals,
 }
 
@@ -70,7 +71,7 @@ impl Model for SpillWorld {
 
     ghost Value = { SpillState };
 
-    ghost view = { λ w. state_of w.links w.second w.signs.items w.since.items w.totals };
+    ghost view = { λ w. state_of w.links w.second w.signs.items w.since.items w.walks w.totals };
 
     ghost invariant = { λ w. HaveScratch w.links × IsBalanced w.totals };
 }
@@ -96,6 +97,7 @@ impl SpillWorld {
             links,
             signs,
             since,
+            walks: has_walks(net),
             totals: SpillTotals {
                 entered: 0,
                 left: 0,
@@ -230,6 +232,7 @@ impl SpillWorld {
             net,
             lights,
             x,
+            self.walks,
         );
         let moment = Moment {
             net,
@@ -237,6 +240,7 @@ impl SpillWorld {
             lights,
             signs: self.signs.as_slice(),
             since: self.since.as_slice(),
+            walks: self.walks,
             arrivals,
             totals: self.totals,
             second: x,
@@ -255,6 +259,7 @@ struct Moment<'a, T> {
     lights: &'a T,
     signs: &'a [Sign],
     since: &'a [u32],
+    walks: bool,
     arrivals: &'a Arrivals,
     totals: SpillTotals,
     second: u32,
@@ -275,12 +280,12 @@ fn pass_second<T: Lights>(links: &mut Links, moment: &Moment<T>) -> SpillTotals
         lit_since (is_green moment.now.net.now (signs_by (T.lines moment.now.lights.now)) l) (moment.now.second + 1) }
     requires stands { IsLookedAt moment.now.net.now (arriving_of moment.now.arrivals.now)
         (slice_index moment.now.store.now) (signs_by (T.lines moment.now.lights.now))
-        links.old moment.now.second moment.now.totals }
+        links.old moment.now.second moment.now.walks moment.now.totals }
     ensures scratch { HaveScratch links.new }
     ensures whole { IsBalanced result }
     ensures stands { Stands moment.now.net.now (arriving_of moment.now.arrivals.now) (slice_index moment.now.store.now)
         (signs_by (T.lines moment.now.lights.now))
-        (state_of links.new (moment.now.second + 1) moment.now.signs.now moment.now.since.now result) }
+        (state_of links.new (moment.now.second + 1) moment.now.signs.now moment.now.since.now moment.now.walks result) }
 {
     let net = moment.net;
     let store = moment.store;
@@ -293,15 +298,15 @@ fn pass_second<T: Lights>(links: &mut Links, moment: &Moment<T>) -> SpillTotals
     let outside = links.outside.as_mut_slice();
     let recent = links.recent.as_mut_slice();
     let waits = links.waits.as_mut_slice();
-    let served = links.served.as_mut_slice();
+    let rates = links.rates.as_mut_slice();
     let out = reach_ends(leaving, queues, held, net, recent, x);
     let shown = Shown {
         signs: moment.signs,
         since: moment.since,
     };
-    serve(served, net, waits, &shown, x);
+    serve(rates, net, waits, &shown, queues, x);
     clear(entering, all);
-    let site = Site { net, store, served };
+    let site = Site { net, store, rates };
     discharge(leaving, queues, entering, held, &site);
     law_of_storages(store, 0);
     let gate = Gate {
@@ -336,7 +341,7 @@ fn empty_links(alloc: Global, n: usize) -> Result<Links, AllocError>
     let held = zeros(alloc, n)?;
     let leaving = zeros(alloc, n)?;
     let entering = zeros(alloc, n)?;
-    let served = none_served(alloc, n)?;
+    let rates = zeros(alloc, n)?;
     Ok(Links {
         queues,
         recent,
@@ -346,13 +351,6 @@ fn empty_links(alloc: Global, n: usize) -> Result<Links, AllocError>
         held,
         leaving,
         entering,
-        served,
+        rates,
     })
-}
-
-/// That none of `n` links may discharge.
-fn none_served(alloc: Global, n: usize) -> Result<Vec<bool>, AllocError>
-    ensures { IfOk result (λ v. length v.items ≡ n) }
-{
-    vec![in alloc; false; n]
 }

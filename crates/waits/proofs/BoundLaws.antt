@@ -65,16 +65,16 @@ node-inside net network l node inside ends =
 module _ (net : Net) (network : IsNetwork net) (arriving : ℕ → ℕ → ℕ) (lines : ℕ → List Green) (intergreens : ℕ → ℕ → ℕ) (end : ℕ)
     (covers : AreWholeLines net intergreens end lines) where
   pub waits-within : AreWaitsWithin net (wait_bounds net intergreens) (cumulative_under net arriving (signs_by lines) end) end
-  waits-within l node wait n inside ends bound room stands =
+  waits-within l node wait n inside ends plain bound room stands =
       let line = covers node (node-inside net network l node inside ends) in
       elim (has-bound (plan_at net node) (intergreens node) None (link_at net l).phase wait bound) [
         | inl has ↦
             subst (λ (w : ℕ). Discharges (cumulative_under net arriving (signs_by lines) end) l n (n + w)) has.is
-            (waiting-law net network arriving lines (intergreens node) l node end n inside ends has.unmarked has.long line.lawful line.intergreens (omega (arith, line.begins)) (omega (arith, room, has.is)) line.ends stands)
+            (waiting-law net network arriving lines (intergreens node) l node end n inside ends plain has.unmarked has.long line.lawful line.intergreens (omega (arith, line.begins)) (omega (arith, room, has.is)) line.ends stands)
         | inr has ↦ absurd (none-some has.seconds has.until)
       ]
 
   pub empties : AreEmptied net intergreens (cumulative_under net arriving (signs_by lines) end) end
-  empties l node n greens inside ends unmarked room =
+  empties l node n greens inside ends plain unmarked room =
       let line = covers node (node-inside net network l node inside ends) in
-      emptying-law net network arriving lines (intergreens node) l node end n greens inside ends unmarked line.lawful line.intergreens (omega (arith, line.begins)) room line.ends
+      emptying-law net network arriving lines (intergreens node) l node end n greens inside ends plain unmarked line.lawful line.intergreens (omega (arith, line.begins)) room line.ends

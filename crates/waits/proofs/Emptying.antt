@@ -1,5 +1,5 @@
 -- What a queue loses in a whole green, and so in each turn of the ring.
-use Rattle.std.proofs.Common.{◌≡◌, ℕ, zero, suc, ◌+◌, ◌-◌, ◌*◌, ◌<◌, ◌≤◌, max, min, true, List, [], length, IfSome, Option, Some, sym, ap, subst, ◌∙◌, inl, inr, arith, suc-mul}
+use Rattle.std.proofs.Common.{◌≡◌, ℕ, zero, suc, ◌+◌, ◌-◌, ◌*◌, ◌<◌, ◌≤◌, max, min, true, List, [], length, IfSome, Option, Some, sym, ap, subst, ◌∙◌, inl, inr, arith, suc-mul, None}
 use Rattle.std.proofs.lemmas.Bool.{cases_lt}
 use Rattle.std.proofs.lemmas.List.Elements.{All-get_or}
 use Rattle.std.proofs.lemmas.Option.{same_Some}
@@ -16,11 +16,11 @@ use Rattle.road_net.specs.Network.{IsNetwork}
 use Rattle.road_net.proofs.Served.{served}
 use Rattle.net_simulator.specs.Flow.{Cumulative, cumulative_under, queue}
 use Rattle.net_simulator.specs.Worlds.{signs_by}
-use Rattle.waits.specs.Discharges.{least_discharge, whole_green_within}
+use Rattle.waits.specs.Discharges.{least_discharge, least_rate, whole_green_within}
 use Rattle.waits.specs.Waits.{IsGreenWithin, AreIntergreensWithin, longest_way}
 use Rattle.waits.proofs.Shown.{IsShown, on-at, shown}
 use Rattle.waits.proofs.Turns.{within}
-use Rattle.waits.proofs.Waiting.{entered-later, goes-open, in-past, left-later, left-next, passed, queue-is, queue-kept, waiting-is}
+use Rattle.waits.proofs.Waiting.{IsDriven, driven-by, entered-later, goes-open, in-past, left-later, left-next, passed, queue-is, queue-kept, waiting-is}
 
 -- two rows that a line shows: a later one begins when the other has ended
 behind-shown : (plan : List Phase) (rows : List Green) (k x y : ℕ) (one : IsShown plan rows k x) (other : IsShown plan rows k y) → one.row.to ≤ y → one.row.to ≤ other.row.from
@@ -68,7 +68,7 @@ whole plan p rows k most lawful turns n begun end =
           whole-of plan rows k next.second n (n + ((phase_at plan k).greatest + most + (phase_at plan k).greatest)) other (omega (arith, after, first.after, one.still)) (omega (arith, next.before, long, under_way))
     ]
 
-module _ (net : Net) (arriving : ℕ → ℕ → ℕ) (seen : ℕ → ℕ → Sign) (l : ℕ) (inside : l < length net.link_names) (travels : 1 ≤ (link_at net l).travel) (flows : 1 ≤ (link_at net l).sat) (node : ℕ) (ends : (link_at net l).to ≡ Some node) where
+module _ (net : Net) (arriving : ℕ → ℕ → ℕ) (seen : ℕ → ℕ → Sign) (l : ℕ) (inside : l < length net.link_names) (travels : 1 ≤ (link_at net l).travel) (driven : IsDriven net l) (node : ℕ) (ends : (link_at net l).to ≡ Some node) where
   abbrev gone : ℕ → ℕ
   gone n = (passed net arriving seen l inside n).left
 
@@ -77,7 +77,7 @@ module _ (net : Net) (arriving : ℕ → ℕ → ℕ) (seen : ℕ → ℕ → Si
 
   -- in the seconds of a green after its start-up
   loses : (n x since j : ℕ) → n ≤ x → since + (phase_at (plan_at net node) (link_at net l).phase).loss ≤ x → ((y : ℕ) → since ≤ y → y < x + j → seen y node ≡ On (link_at net l).phase since)
-      → gone n + min (stands n) (j * (link_at net l).sat) ≤ gone (x + j)
+      → gone n + min (stands n) (j * least_rate (link_at net l)) ≤ gone (x + j)
   loses n x since zero h spent shows =
       let e : x + 0 ≡ x = omega arith in
       omega (arith, left-later net arriving seen l inside n x h, ap gone e)
@@ -86,11 +86,11 @@ module _ (net : Net) (arriving : ℕ → ℕ → ℕ) (seen : ℕ → ℕ → Si
       let y = x + j in
       let e : x + suc j ≡ y + 1 = omega arith in
       let come = entered-later net arriving seen l inside (n - (link_at net l).travel) (y + 1 - (link_at net l).travel) (omega (arith, h)) in
-      let goes = goes-open net arriving seen l inside travels flows node ends y since (λ z low high. shows z low (omega (arith, high))) (omega (arith, spent)) in
-      omega (arith, before, come, goes, suc-mul j (link_at net l).sat, queue-is net arriving seen l inside travels flows node ends n, waiting-is net arriving seen l inside travels flows node ends y, left-next net arriving seen l inside y, left-later net arriving seen l inside n y (omega (arith, h)), ap gone e)
+      let goes = goes-open net arriving seen l inside travels driven node ends y since (λ z low high. shows z low (omega (arith, high))) (omega (arith, spent)) in
+      omega (arith, before, come, goes, suc-mul j (least_rate (link_at net l)), queue-is net arriving seen l inside travels driven node ends n, waiting-is net arriving seen l inside travels driven node ends y, left-next net arriving seen l inside y, left-later net arriving seen l inside n y (omega (arith, h)), ap gone e)
 
 -- the law, for lines
-module _ (net : Net) (network : IsNetwork net) (arriving : ℕ → ℕ → ℕ) (lines : ℕ → List Green) (l node : ℕ) (inside : l < length net.link_names) (ends : (link_at net l).to ≡ Some node)
+module _ (net : Net) (network : IsNetwork net) (arriving : ℕ → ℕ → ℕ) (lines : ℕ → List Green) (l node : ℕ) (inside : l < length net.link_names) (ends : (link_at net l).to ≡ Some node) (plain : (link_at net l).walk ≡ None)
     (p : IsPlan (plan_at net node)) (lawful : IsLawful (plan_at net node) (lines node)) where
   abbrev k : ℕ
   k = (link_at net l).phase
@@ -102,8 +102,8 @@ module _ (net : Net) (network : IsNetwork net) (arriving : ℕ → ℕ → ℕ) 
   link-is = All-get_or (IsLink (length net.node_names)) net.links l no_link (let f = network.outline.road_count in omega (arith, f, inside)) network.outline.links
 
   pub turn-loses : (most n : ℕ) → IsGreenWithin (lines node) k most → (row_at (lines node) 0).from ≤ n → n + times.greatest + most < end_of (lines node)
-      → gone net arriving (signs_by lines) l inside link-is.travel.0 link-is.sat.0 node ends n + min (stands net arriving (signs_by lines) l inside link-is.travel.0 link-is.sat.0 node ends n) (least_discharge (plan_at net node) k (link_at net l).sat)
-      ≤ gone net arriving (signs_by lines) l inside link-is.travel.0 link-is.sat.0 node ends (n + (times.greatest + most + times.greatest))
+      → gone net arriving (signs_by lines) l inside link-is.travel.0 (driven-by net network l inside plain) node ends n + min (stands net arriving (signs_by lines) l inside link-is.travel.0 (driven-by net network l inside plain) node ends n) (least_discharge (plan_at net node) k (least_rate (link_at net l)))
+      ≤ gone net arriving (signs_by lines) l inside link-is.travel.0 (driven-by net network l inside plain) node ends (n + (times.greatest + most + times.greatest))
   turn-loses most n turns begun end =
       let one = whole (plan_at net node) p (lines node) k most lawful turns n begun end in
       let least : one.row.from + times.least ≤ one.row.to = subst (λ (j : ℕ). one.row.from + (phase_at (plan_at net node) j).least ≤ one.row.to) one.phase one.green.least in
@@ -113,44 +113,44 @@ module _ (net : Net) (network : IsNetwork net) (arriving : ℕ → ℕ → ℕ) 
       on-at (lines node) y one.row k (order-lawful (plan_at net node) (lines node) p lawful) (one.found y low (omega (arith, some, less, least))) one.phase in
       elim (cases_lt times.loss times.least) [
         | inl some ↦
-            let loss = loses net arriving (signs_by lines) l inside link-is.travel.0 link-is.sat.0 node ends n x one.row.from count (omega (arith, one.after)) (omega arith) (shows some) in
+            let loss = loses net arriving (signs_by lines) l inside link-is.travel.0 (driven-by net network l inside plain) node ends n x one.row.from count (omega (arith, one.after)) (omega arith) (shows some) in
             omega (arith, loss, left-later net arriving (signs_by lines) l inside (x + count) (n + (times.greatest + most + times.greatest)) (omega (arith, least, one.before, some)))
         | inr none ↦
             let e : count ≡ 0 = omega (arith, none) in
-            omega (arith, ap (λ (c : ℕ). c * (link_at net l).sat) e, left-later net arriving (signs_by lines) l inside n (n + (times.greatest + most + times.greatest)) (omega arith))
+            omega (arith, ap (λ (c : ℕ). c * least_rate (link_at net l)) e, left-later net arriving (signs_by lines) l inside n (n + (times.greatest + most + times.greatest)) (omega arith))
       ]
 
   abbrev left_by : ℕ → ℕ
-  left_by n = gone net arriving (signs_by lines) l inside link-is.travel.0 link-is.sat.0 node ends n
+  left_by n = gone net arriving (signs_by lines) l inside link-is.travel.0 (driven-by net network l inside plain) node ends n
 
   abbrev queue_by : ℕ → ℕ
-  queue_by n = stands net arriving (signs_by lines) l inside link-is.travel.0 link-is.sat.0 node ends n
+  queue_by n = stands net arriving (signs_by lines) l inside link-is.travel.0 (driven-by net network l inside plain) node ends n
 
   -- turn by turn
   pub turns-lose : (most n now turns : ℕ) → IsGreenWithin (lines node) k most → (row_at (lines node) 0).from ≤ n → n + turns * (times.greatest + most + times.greatest) ≤ now → now < end_of (lines node)
-      → left_by n + min (queue_by n) (turns * least_discharge (plan_at net node) k (link_at net l).sat) ≤ left_by (n + turns * (times.greatest + most + times.greatest))
+      → left_by n + min (queue_by n) (turns * least_discharge (plan_at net node) k (least_rate (link_at net l))) ≤ left_by (n + turns * (times.greatest + most + times.greatest))
   turns-lose most n now zero within begun room end =
       let e : n + 0 * (times.greatest + most + times.greatest) ≡ n = omega arith in
       omega (arith, ap left_by e)
   turns-lose most n now (suc turns) within begun room end =
       let span = times.greatest + most + times.greatest in
-      let share = least_discharge (plan_at net node) k (link_at net l).sat in
+      let share = least_discharge (plan_at net node) k (least_rate (link_at net l)) in
       let m = n + turns * span in
       let grown = suc-mul turns span in
       let before = turns-lose most n now turns within begun (omega (arith, room, grown)) end in
       let one = turn-loses most m within (omega (arith, begun)) (omega (arith, room, grown, end)) in
       let e : n + suc turns * span ≡ m + span = omega (arith, grown) in
       let come = entered-later net arriving (signs_by lines) l inside (n - (link_at net l).travel) (m - (link_at net l).travel) (omega arith) in
-      omega (arith, before, one, come, suc-mul turns share, queue-is net arriving (signs_by lines) l inside link-is.travel.0 link-is.sat.0 node ends n, queue-is net arriving (signs_by lines) l inside link-is.travel.0 link-is.sat.0 node ends m, ap left_by e)
+      omega (arith, before, one, come, suc-mul turns share, queue-is net arriving (signs_by lines) l inside link-is.travel.0 (driven-by net network l inside plain) node ends n, queue-is net arriving (signs_by lines) l inside link-is.travel.0 (driven-by net network l inside plain) node ends m, ap left_by e)
 
 -- where the greens follow one another within intergreens
 pub emptying-law : (net : Net) → IsNetwork net → (arriving : ℕ → ℕ → ℕ) (lines : ℕ → List Green) (intergreen : ℕ → ℕ) (l node now n turns : ℕ) → l < length net.link_names
-    → (link_at net l).to ≡ Some node → is_unmarked_at (plan_at net node) (link_at net l).phase ≡ true
+    → (link_at net l).to ≡ Some node → (link_at net l).walk ≡ None → is_unmarked_at (plan_at net node) (link_at net l).phase ≡ true
     → IsLawful (plan_at net node) (lines node) → AreIntergreensWithin intergreen (lines node) → (row_at (lines node) 0).from ≤ n
     → n + turns * whole_green_within (plan_at net node) intergreen (link_at net l).phase ≤ now → now < end_of (lines node)
-    → (cumulative_under net arriving (signs_by lines) now n l).left + min (queue net (cumulative_under net arriving (signs_by lines) now) n l) (turns * least_discharge (plan_at net node) (link_at net l).phase (link_at net l).sat)
+    → (cumulative_under net arriving (signs_by lines) now n l).left + min (queue net (cumulative_under net arriving (signs_by lines) now) n l) (turns * least_discharge (plan_at net node) (link_at net l).phase (least_rate (link_at net l)))
     ≤ (cumulative_under net arriving (signs_by lines) now (n + turns * whole_green_within (plan_at net node) intergreen (link_at net l).phase) l).left
-emptying-law net network arriving lines intergreen l node now n turns inside ends free lawful intergreens begun room end =
+emptying-law net network arriving lines intergreen l node now n turns inside ends plain free lawful intergreens begun room end =
     let link : IsLink (length net.node_names) (link_at net l) = All-get_or (IsLink (length net.node_names)) net.links l no_link (let f = network.outline.road_count in omega (arith, f, inside)) network.outline.links in
     let there : node < length net.node_names = subst (λ (o : Option ℕ). IfSome o (λ n. n < length net.node_names)) ends link.to in
     let plan = plan_at net node in
@@ -160,7 +160,7 @@ emptying-law net network arriving lines intergreen l node now n turns inside end
     let most = longest_way plan intergreen k k in
     let turning : IsGreenWithin (lines node) k most = within plan p intergreen k below free (lines node) lawful intergreens in
     let m = n + turns * whole_green_within plan intergreen k in
-    let lost = turns-lose net network arriving lines l node inside ends p lawful most n now turns turning begun room end in
+    let lost = turns-lose net network arriving lines l node inside ends plain p lawful most n now turns turning begun room end in
     let same = in-past net arriving (signs_by lines) l inside now n (omega (arith, room)) in
     let later = in-past net arriving (signs_by lines) l inside now m room in
     omega (arith, lost, queue-kept net arriving (signs_by lines) l inside now n (omega (arith, room)), ap (λ (q : Cumulative). q.left) same, ap (λ (q : Cumulative). q.left) later)

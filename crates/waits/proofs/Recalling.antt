@@ -32,7 +32,7 @@ use Rattle.waits.specs.Waits.{AreIntergreensWithin, IsGreenBy, longest_red, long
 use Rattle.waits.proofs.Intergreens.{intergreens-tail}
 use Rattle.waits.proofs.Recalled.{recalls}
 use Rattle.waits.proofs.Rounds.{kept}
-use Rattle.waits.proofs.Waiting.{entered-later, in-past, left-later, passed, queue-is, queue-kept, waits}
+use Rattle.waits.proofs.Waiting.{driven-by, entered-later, in-past, left-later, passed, queue-is, queue-kept, waits}
 
 -- ---- fewer recalls
 
@@ -172,7 +172,7 @@ fewer step a b less = elim (cases_lt a b) [
 ]
 
 module _ (net : Net) (network : IsNetwork net) (arriving : ℕ → ℕ → ℕ) (shown : ℕ → ℕ → Sign) (line : ℕ → ℕ → List Green) (intergreen : ℕ → ℕ) (rounds step recall l node : ℕ)
-    (inside : l < length net.link_names) (ends : (link_at net l).to ≡ Some node) (are : RecallRounds net arriving shown line intergreen rounds step recall l node) where
+    (inside : l < length net.link_names) (ends : (link_at net l).to ≡ Some node) (plain : (link_at net l).walk ≡ None) (are : RecallRounds net arriving shown line intergreen rounds step recall l node) where
   abbrev plan : List Phase
   plan = plan_at net node
 
@@ -218,7 +218,7 @@ module _ (net : Net) (network : IsNetwork net) (arriving : ℕ → ℕ → ℕ) 
     stands-on : (m now : ℕ) → n ≤ m → m ≤ n + wait → m ≤ now → 0 < queue net (cumulative_under net arriving shown now) m l
     stands-on m now after within early =
         let travels = link-is.travel.0 in
-        let flows = link-is.sat.0 in
+        let flows = driven-by net network l inside plain in
         let was = queue-is net arriving shown l inside travels flows node ends n in
         let is = queue-is net arriving shown l inside travels flows node ends m in
         let more = entered-later net arriving shown l inside (n - (link_at net l).travel) (m - (link_at net l).travel) (omega (arith, after)) in
@@ -292,7 +292,7 @@ module _ (net : Net) (network : IsNetwork net) (arriving : ℕ → ℕ → ℕ) 
     goes : (past n).left < (past (n + wait)).left
     goes =
         let gone = subst (λ (p : ℕ → ℕ → Cumulative). 0 < queue net p second l → (p second l).left < (p (second + (red + (phase_at plan k).loss + 1)) l).left) same-past
-        (waits net network arriving (line last) l node inside ends plan-is (kept-line last few).0 long second red (n + wait) green (omega (arith, at-first.1)))
+        (waits net network arriving (line last) l node inside ends plain plan-is (kept-line last few).0 long second red (n + wait) green (omega (arith, at-first.1)))
         (stands-on n wait stands none second (n + wait) (omega (arith, at-first.0)) (omega (arith, at-first.1)) (omega (arith, at-first.1))) in
         let from = ap (λ (q : Cumulative). q.left) (in-past net arriving shown l inside (n + wait) second (omega (arith, at-first.1))) in
         let to = ap (λ (q : Cumulative). q.left) (in-past net arriving shown l inside (n + wait) (second + (red + (phase_at plan k).loss + 1)) (omega (arith, at-first.1))) in

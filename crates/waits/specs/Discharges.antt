@@ -4,6 +4,7 @@ use Rattle.std.specs.Prelude.{Result, Ok, Err}
 use Rattle.std.specs.List.{fold, range_with_len}
 use Rattle.std.specs.Option.{option_map_or}
 use Rattle.net_parts.specs.Numbers.{Net}
+use Rattle.net_parts.specs.declared.roads.Link.{Link}
 use Rattle.net_parts.specs.Outline.{link_at, plan_at}
 use Rattle.phase_plan.specs.Phases.{is_unmarked_at, phase_at}
 use Rattle.phase_plan.specs.declared.Phase.{Phase}
@@ -54,12 +55,16 @@ intergreens_of net look node = longest_intergreen (plan_at net node) look
 abbrev pub wait_bounds : Net → (ℕ → ℕ → ℕ) → ℕ → ℕ → Result ℕ NoBound
 wait_bounds net intergreens node k = wait_bound (plan_at net node) (intergreens node) None k
 
--- No queue waits for ever: in the first `end` seconds each queue loses something within the bound of its phase, `bound node k` for
--- phase k of a node, where it has one.
+-- No queue waits for ever: in the first `end` seconds each queue of a link without a walk loses something within the bound of its phase,
+-- `bound node k` for phase k of a node, where it has one.
 abbrev pub AreWaitsWithin : Net → (ℕ → ℕ → Result ℕ NoBound) → (ℕ → ℕ → Cumulative) → ℕ → Type 0
 AreWaitsWithin net bound past end =
-    (l node wait n : ℕ) → l < length net.link_names → (link_at net l).to ≡ Some node
+    (l node wait n : ℕ) → l < length net.link_names → (link_at net l).to ≡ Some node → (link_at net l).walk ≡ None
     → bound node (link_at net l).phase ≡ Ok wait → n + wait ≤ end → 0 < queue net past n l → Discharges past l n (n + wait)
+
+-- what a link discharges at the least in a second in which it may, where enough waits: less where it gives way to others
+abbrev pub least_rate : Link → ℕ
+least_rate link = if nat_lt 0 link.yield_sat then link.yield_sat else link.sat
 
 -- what a green of phase k of the least length lets leave after its start-up, from a link of this rate
 abbrev pub least_discharge : List Phase → ℕ → ℕ → ℕ
@@ -70,16 +75,16 @@ least_discharge plan k sat = ((phase_at plan k).least - (phase_at plan k).loss) 
 abbrev pub whole_green_within : List Phase → (ℕ → ℕ) → ℕ → ℕ
 whole_green_within plan intergreen k = (phase_at plan k).greatest + longest_red plan intergreen k + (phase_at plan k).greatest
 
--- In the first `end` seconds each queue of an unmarked phase leaves green by green: after so many times of a whole green it has
+-- In the first `end` seconds each queue of an unmarked phase, of a link without a walk, leaves green by green: after so many times of a whole green it has
 -- lost as many least discharges, or all of it has left.
 abbrev pub AreEmptied : Net → (ℕ → ℕ → ℕ) → (ℕ → ℕ → Cumulative) → ℕ → Type 0
 AreEmptied net intergreens past end =
-    (l node n greens : ℕ) → l < length net.link_names → (link_at net l).to ≡ Some node
+    (l node n greens : ℕ) → l < length net.link_names → (link_at net l).to ≡ Some node → (link_at net l).walk ≡ None
     → let plan = plan_at net node in
     let k = (link_at net l).phase in
     let later = n + greens * whole_green_within plan (intergreens node) k in
     IsTrue (is_unmarked_at plan k) → later ≤ end
-    → (past n l).left + min (queue net past n l) (greens * least_discharge plan k (link_at net l).sat) ≤ (past later l).left
+    → (past n l).left + min (queue net past n l) (greens * least_discharge plan k (least_rate (link_at net l))) ≤ (past later l).left
 
 -- a lawful line with intergreens within these that shows the first `end` seconds: its first row begins with second 0, and its last
 -- one ends after them

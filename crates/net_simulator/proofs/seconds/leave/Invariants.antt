@@ -1,12 +1,10 @@
-use Rattle.std.proofs.Common.{◌≡◌, ℕ, ◌-◌, ◌<◌, ◌≤◌, slice_index}
+use Rattle.std.proofs.Common.{◌≡◌, ℕ, ◌<◌, ◌≤◌, slice_index}
 use Rattle.net_parts.specs.Outline.{link_at}
-use Rattle.net_simulator.specs.LinkSeconds.{waits_at}
 use Rattle.net_simulator.specs.Steps.{goes}
 use Rattle.net_simulator.proofs.seconds.leave.Given as goal
 
 abbrev pub invariant-loop-l : goal.invariant-loop-l
 invariant-loop-l l = record {
-  leaving : (k : ℕ) → k < l.l → slice_index l.leaving k ≡ goes l.net l.shown.signs.now l.shown.since.now l.waits l.second k (waits_at l.net l.initial.queues l.recent l.second k) (link_at l.net k).to;
-  queues : (k : ℕ) → k < l.l → slice_index l.queues k ≡ waits_at l.net l.initial.queues l.recent l.second k - slice_index l.leaving k;
-  rest : (k : ℕ) → l.l ≤ k → slice_index l.queues k ≡ slice_index l.initial.queues k;
+  leaving : (k : ℕ) → k < l.l → slice_index l.leaving k ≡ goes l.net l.shown.signs.now l.shown.since.now l.waits l.ready l.second k (link_at l.net k).to;
+  most : (k : ℕ) → k < l.l → slice_index l.leaving k ≤ slice_index l.ready k;
 }

@@ -3,13 +3,13 @@ use Rattle.arrivals.specs.Amounts.{arriving_of}
 use Rattle.net_simulator.proofs.Passing.{few-of, room-leave, room-enter, leaves-now, counts-small, standing-small, stands-next, room-entered, room-left, delay-most}
 use Rattle.net_simulator.proofs.world.pass_second.Goals as goal
 
-pub leave-requires-clause-fits : goal.leave-requires-clause-fits
-leave-requires-clause-fits g c =
+pub gather-requires-clause-fits : goal.gather-requires-clause-fits
+gather-requires-clause-fits g c =
     room-leave c.args.moment.now.net.now c.links-links.ensures.network (arriving_of c.args.moment.now.arrivals.now) (g.T.Lights.lines c.args.moment.now.lights.now) (few-of c.args.moment.now.net.now c.links-links.ensures.network c.args.moment.now.arrivals.now c.requires.arrivals) _ c.requires.stands.stands c.arrive-arriving.new.recent c.arrive-arriving.ensures.others
 
 pub enter-out-requires-clause-fits : goal.enter-out-requires-clause-fits
 enter-out-requires-clause-fits g c =
-    let leaves = leaves-now c.args.moment.now.net.now c.links-links.ensures.network (arriving_of c.args.moment.now.arrivals.now) (g.T.Lights.lines c.args.moment.now.lights.now) (few-of c.args.moment.now.net.now c.links-links.ensures.network c.args.moment.now.arrivals.now c.requires.arrivals) _ c.requires.stands.stands c.args.moment.now.signs.now c.args.moment.now.since.now c.arrive-arriving.new.recent c.leave.new.leaving c.requires.second c.requires.signs c.requires.since c.arrive-arriving.ensures.others c.leave.ensures.leaving in
+    let leaves = leaves-now c.args.moment.now.net.now c.links-links.ensures.network (arriving_of c.args.moment.now.arrivals.now) (g.T.Lights.lines c.args.moment.now.lights.now) (few-of c.args.moment.now.net.now c.links-links.ensures.network c.args.moment.now.arrivals.now c.requires.arrivals) _ c.requires.stands.stands c.args.moment.now.signs.now c.args.moment.now.since.now c.arrive-arriving.new.recent c.gather.new.queues c.leave.new.leaving c.requires.second c.requires.signs c.requires.since c.arrive-arriving.ensures.others c.gather.ensures c.leave.ensures.leaving in
     room-enter c.args.moment.now.net.now c.links-links.ensures.network (arriving_of c.args.moment.now.arrivals.now) (g.T.Lights.lines c.args.moment.now.lights.now) (few-of c.args.moment.now.net.now c.links-links.ensures.network c.args.moment.now.arrivals.now c.requires.arrivals) _ c.requires.stands.stands c.arrive-arriving.new.recent c.leave.new.leaving leaves
     (rw c.links-links.ensures.value at c.arrive-arriving.ensures.here)
 
@@ -27,7 +27,7 @@ overflow_add-entered g c =
 
 pub overflow_sub-result : goal.overflow_sub-result
 overflow_sub-result g c =
-    let leaves = leaves-now c.args.moment.now.net.now c.links-links.ensures.network (arriving_of c.args.moment.now.arrivals.now) (g.T.Lights.lines c.args.moment.now.lights.now) (few-of c.args.moment.now.net.now c.links-links.ensures.network c.args.moment.now.arrivals.now c.requires.arrivals) _ c.requires.stands.stands c.args.moment.now.signs.now c.args.moment.now.since.now c.arrive-arriving.new.recent c.leave.new.leaving c.requires.second c.requires.signs c.requires.since c.arrive-arriving.ensures.others c.leave.ensures.leaving in
+    let leaves = leaves-now c.args.moment.now.net.now c.links-links.ensures.network (arriving_of c.args.moment.now.arrivals.now) (g.T.Lights.lines c.args.moment.now.lights.now) (few-of c.args.moment.now.net.now c.links-links.ensures.network c.args.moment.now.arrivals.now c.requires.arrivals) _ c.requires.stands.stands c.args.moment.now.signs.now c.args.moment.now.since.now c.arrive-arriving.new.recent c.gather.new.queues c.leave.new.leaving c.requires.second c.requires.signs c.requires.since c.arrive-arriving.ensures.others c.gather.ensures c.leave.ensures.leaving in
     let room = room-left c.args.moment.now.net.now c.links-links.ensures.network (arriving_of c.args.moment.now.arrivals.now) (g.T.Lights.lines c.args.moment.now.lights.now) (few-of c.args.moment.now.net.now c.links-links.ensures.network c.args.moment.now.arrivals.now c.requires.arrivals) _ c.requires.stands.stands c.leave.new.leaving leaves in
     let all = rw c.links-links.ensures.value at c.arrive-arriving.ensures.all in
     omega (arith, room, all, c.enter-out.ensures.out)
@@ -36,7 +36,7 @@ pub overflow_add-left : goal.overflow_add-left
 overflow_add-left g c =
     let room = room-entered c.args.moment.now.net.now c.links-links.ensures.network (arriving_of c.args.moment.now.arrivals.now) (g.T.Lights.lines c.args.moment.now.lights.now) (few-of c.args.moment.now.net.now c.links-links.ensures.network c.args.moment.now.arrivals.now c.requires.arrivals) _ c.requires.stands.stands in
     let all = rw c.links-links.ensures.value at c.arrive-arriving.ensures.all in
-    let leaves = leaves-now c.args.moment.now.net.now c.links-links.ensures.network (arriving_of c.args.moment.now.arrivals.now) (g.T.Lights.lines c.args.moment.now.lights.now) (few-of c.args.moment.now.net.now c.links-links.ensures.network c.args.moment.now.arrivals.now c.requires.arrivals) _ c.requires.stands.stands c.args.moment.now.signs.now c.args.moment.now.since.now c.arrive-arriving.new.recent c.leave.new.leaving c.requires.second c.requires.signs c.requires.since c.arrive-arriving.ensures.others c.leave.ensures.leaving in
+    let leaves = leaves-now c.args.moment.now.net.now c.links-links.ensures.network (arriving_of c.args.moment.now.arrivals.now) (g.T.Lights.lines c.args.moment.now.lights.now) (few-of c.args.moment.now.net.now c.links-links.ensures.network c.args.moment.now.arrivals.now c.requires.arrivals) _ c.requires.stands.stands c.args.moment.now.signs.now c.args.moment.now.since.now c.arrive-arriving.new.recent c.gather.new.queues c.leave.new.leaving c.requires.second c.requires.signs c.requires.since c.arrive-arriving.ensures.others c.gather.ensures c.leave.ensures.leaving in
     let less = room-left c.args.moment.now.net.now c.links-links.ensures.network (arriving_of c.args.moment.now.arrivals.now) (g.T.Lights.lines c.args.moment.now.lights.now) (few-of c.args.moment.now.net.now c.links-links.ensures.network c.args.moment.now.arrivals.now c.requires.arrivals) _ c.requires.stands.stands c.leave.new.leaving leaves in
     omega (arith, room, all, less, c.enter-out.ensures.out)
 
@@ -48,19 +48,19 @@ overflow_add-result g c =
 
 pub returns-clause-whole : goal.returns-clause-whole
 returns-clause-whole g c =
-    let leaves = leaves-now c.args.moment.now.net.now c.links-links.ensures.network (arriving_of c.args.moment.now.arrivals.now) (g.T.Lights.lines c.args.moment.now.lights.now) (few-of c.args.moment.now.net.now c.links-links.ensures.network c.args.moment.now.arrivals.now c.requires.arrivals) _ c.requires.stands.stands c.args.moment.now.signs.now c.args.moment.now.since.now c.arrive-arriving.new.recent c.leave.new.leaving c.requires.second c.requires.signs c.requires.since c.arrive-arriving.ensures.others c.leave.ensures.leaving in
+    let leaves = leaves-now c.args.moment.now.net.now c.links-links.ensures.network (arriving_of c.args.moment.now.arrivals.now) (g.T.Lights.lines c.args.moment.now.lights.now) (few-of c.args.moment.now.net.now c.links-links.ensures.network c.args.moment.now.arrivals.now c.requires.arrivals) _ c.requires.stands.stands c.args.moment.now.signs.now c.args.moment.now.since.now c.arrive-arriving.new.recent c.gather.new.queues c.leave.new.leaving c.requires.second c.requires.signs c.requires.since c.arrive-arriving.ensures.others c.gather.ensures c.leave.ensures.leaving in
     let room = room-left c.args.moment.now.net.now c.links-links.ensures.network (arriving_of c.args.moment.now.arrivals.now) (g.T.Lights.lines c.args.moment.now.lights.now) (few-of c.args.moment.now.net.now c.links-links.ensures.network c.args.moment.now.arrivals.now c.requires.arrivals) _ c.requires.stands.stands c.leave.new.leaving leaves in
     let all = rw c.links-links.ensures.value at c.arrive-arriving.ensures.all in
     omega (arith, room, all, c.enter-out.ensures.out)
 
 pub returns-clause-stands : goal.returns-clause-stands
 returns-clause-stands g c =
-    stands-next c.args.moment.now.net.now c.links-links.ensures.network (arriving_of c.args.moment.now.arrivals.now) (g.T.Lights.lines c.args.moment.now.lights.now) (few-of c.args.moment.now.net.now c.links-links.ensures.network c.args.moment.now.arrivals.now c.requires.arrivals) _ c.requires.stands.stands c.arrive-arriving.new.recent c.leave.new.leaving
+    stands-next c.args.moment.now.net.now c.links-links.ensures.network (arriving_of c.args.moment.now.arrivals.now) (g.T.Lights.lines c.args.moment.now.lights.now) (few-of c.args.moment.now.net.now c.links-links.ensures.network c.args.moment.now.arrivals.now c.requires.arrivals) _ c.requires.stands.stands c.arrive-arriving.new.recent c.gather.new.queues c.leave.new.leaving
     (record {
       second = c.args.moment.now.second + 1;
       signs = c.args.moment.now.signs.now;
       since = c.args.moment.now.since.now;
-      queues = c.leave.new.queues;
+      queues = c.settle.new.queues;
       recent = c.enter-out.new.recent;
       waits = c.remember.new.waits;
       stood = c.remember.new.stood;
@@ -71,16 +71,18 @@ returns-clause-stands g c =
         on = (c.args.moment.now.totals.entered + c.arrive-arriving.result) - (c.args.moment.now.totals.left + c.enter-out.result);
         delay = c.args.moment.now.totals.delay + c.count-waiting.result;
       };
+      walks = c.args.moment.now.walks;
     })
     c.requires.second refl
-    (let s = c.requires.stands.stands.shape in record { signs = c.requires.stands.long; since = c.requires.stands.many; queues = omega arith; recent = omega arith; waits = omega arith; stood = omega arith; counts = omega arith })
+    (let s = c.requires.stands.stands.shape in record { signs = c.requires.stands.long; since = c.requires.stands.many; queues = omega arith; recent = omega arith; waits = omega arith; stood = omega arith; counts = omega arith; walks = s.walks })
     c.requires.signs
     c.requires.since
     (record {
       arrives = rw c.links-links.ensures.value at c.arrive-arriving.ensures.here;
       arrives-others = c.arrive-arriving.ensures.others;
+      gathers = c.gather.ensures;
       leaves = c.leave.ensures.leaving;
-      queues = c.leave.ensures.queues;
+      queues = rw c.links-links.ensures.value at c.settle.ensures;
       enters = c.enter-out.ensures.here;
       enters-others = c.enter-out.ensures.others;
       remembers = rw c.links-links.ensures.value at c.remember.ensures.here;

@@ -12,7 +12,7 @@ use Rattle.spillback_world.proofs.worlds.pass_second.Goals as goal
 
 pub reach_ends-out-requires-clause-there : goal.reach_ends-out-requires-clause-there
 reach_ends-out-requires-clause-there g c =
-    let stands = stands-seen c.args.moment.now.net.now (arriving_of c.args.moment.now.arrivals.now) (slice_index c.args.moment.now.store.now) (signs_by (g.T.Lights.lines c.args.moment.now.lights.now)) (state_of c.args.links.now c.args.moment.now.second c.requires.stands.signs c.requires.stands.since c.args.moment.now.totals)
+    let stands = stands-seen c.args.moment.now.net.now (arriving_of c.args.moment.now.arrivals.now) (slice_index c.args.moment.now.store.now) (signs_by (g.T.Lights.lines c.args.moment.now.lights.now)) (state_of c.args.links.now c.args.moment.now.second c.requires.stands.signs c.requires.stands.since c.args.moment.now.walks c.args.moment.now.totals)
     c.as_mut_slice-queues.result.now c.as_mut_slice-recent.result.now c.as_mut_slice-waits.result.now c.args.links.now.stood.items c.as_mut_slice-outside.result.now c.as_mut_slice-held.result.now
     c.as_mut_slice-queues.ensures.value c.as_mut_slice-recent.ensures.value c.as_mut_slice-waits.ensures.value refl c.as_mut_slice-outside.ensures.value c.as_mut_slice-held.ensures.value c.requires.stands.stands in
     waits-held c.args.moment.now.net.now c.links-all.ensures.network (arriving_of c.args.moment.now.arrivals.now) c.args.moment.now.store.now (signs_by (g.T.Lights.lines c.args.moment.now.lights.now)) (few-of c.args.moment.now.net.now c.links-all.ensures.network c.args.moment.now.arrivals.now c.requires.arrivals) (sources-of c.args.moment.now.net.now c.args.moment.now.arrivals.now c.requires.arrivals) _ stands
@@ -26,7 +26,7 @@ discharge-requires-clause-links g c =
       queues = c.reach_ends-out.auto.queues ∙ ap length c.as_mut_slice-queues.ensures.value ∙ s.queues;
       entering = c.clear.auto.amounts ∙ ap length c.as_mut_slice-entering.ensures.value ∙ c.requires.scratch.entering ∙ s.queues;
       held = c.reach_ends-out.auto.held ∙ ap length c.as_mut_slice-held.ensures.value ∙ s.held;
-      served = c.serve.auto.served ∙ ap length c.as_mut_slice-served.ensures.value ∙ c.requires.scratch.served ∙ s.queues;
+      rates = c.serve.auto.rates ∙ ap length c.as_mut_slice-rates.ensures.value ∙ c.requires.scratch.rates ∙ s.queues;
     }
 
 pub discharge-requires-clause-left : goal.discharge-requires-clause-left
@@ -43,7 +43,7 @@ returns-clause-scratch g c =
     record {
       leaving = ap length (with_items_is links.leaving c.discharge.new.leaving (omega (arith, d.leaving, c.requires.scratch.leaving, s.queues, links.leaving.ok.0))) ∙ d.leaving ∙ sym queues;
       entering = ap length (with_items_is links.entering c.discharge.new.entering (omega (arith, d.entering, c.requires.scratch.entering, s.queues, links.entering.ok.0))) ∙ d.entering ∙ sym queues;
-      served = ap length (with_items_is links.served c.serve.new.served (omega (arith, d.served, c.requires.scratch.served, s.queues, links.served.ok.0))) ∙ d.served ∙ sym queues;
+      rates = ap length (with_items_is links.rates c.serve.new.rates (omega (arith, d.rates, c.requires.scratch.rates, s.queues, links.rates.ok.0))) ∙ d.rates ∙ sym queues;
     }
 
 pub reach_ends-out-requires-clause-leaving : goal.reach_ends-out-requires-clause-leaving
@@ -58,8 +58,8 @@ reach_ends-out-requires-clause-held g c = ap length c.as_mut_slice-held.ensures.
 pub reach_ends-out-requires-clause-recent : goal.reach_ends-out-requires-clause-recent
 reach_ends-out-requires-clause-recent g c = ap length c.as_mut_slice-recent.ensures.value ∙ c.requires.stands.stands.shape.recent
 
-pub serve-requires-clause-served : goal.serve-requires-clause-served
-serve-requires-clause-served g c = ap length c.as_mut_slice-served.ensures.value ∙ c.requires.scratch.served ∙ c.requires.stands.stands.shape.queues
+pub serve-requires-clause-rates : goal.serve-requires-clause-rates
+serve-requires-clause-rates g c = ap length c.as_mut_slice-rates.ensures.value ∙ c.requires.scratch.rates ∙ c.requires.stands.stands.shape.queues
 
 pub serve-requires-clause-waits : goal.serve-requires-clause-waits
 serve-requires-clause-waits g c = ap length c.as_mut_slice-waits.ensures.value ∙ c.requires.stands.stands.shape.waits
@@ -84,14 +84,14 @@ let_in-come-requires-clause-within g c l h = c.discharge.ensures.are.within l (r
 
 pub discharge-requires-clause-held : goal.discharge-requires-clause-held
 discharge-requires-clause-held g c =
-    let stands = stands-seen c.args.moment.now.net.now (arriving_of c.args.moment.now.arrivals.now) (slice_index c.args.moment.now.store.now) (signs_by (g.T.Lights.lines c.args.moment.now.lights.now)) (state_of c.args.links.now c.args.moment.now.second c.requires.stands.signs c.requires.stands.since c.args.moment.now.totals)
+    let stands = stands-seen c.args.moment.now.net.now (arriving_of c.args.moment.now.arrivals.now) (slice_index c.args.moment.now.store.now) (signs_by (g.T.Lights.lines c.args.moment.now.lights.now)) (state_of c.args.links.now c.args.moment.now.second c.requires.stands.signs c.requires.stands.since c.args.moment.now.walks c.args.moment.now.totals)
     c.as_mut_slice-queues.result.now c.as_mut_slice-recent.result.now c.as_mut_slice-waits.result.now c.args.links.now.stood.items c.as_mut_slice-outside.result.now c.as_mut_slice-held.result.now
     c.as_mut_slice-queues.ensures.value c.as_mut_slice-recent.ensures.value c.as_mut_slice-waits.ensures.value refl c.as_mut_slice-outside.ensures.value c.as_mut_slice-held.ensures.value c.requires.stands.stands in
-    are-held c.args.moment.now.net.now c.links-all.ensures.network (arriving_of c.args.moment.now.arrivals.now) c.args.moment.now.store.now (signs_by (g.T.Lights.lines c.args.moment.now.lights.now)) (few-of c.args.moment.now.net.now c.links-all.ensures.network c.args.moment.now.arrivals.now c.requires.arrivals) (sources-of c.args.moment.now.net.now c.args.moment.now.arrivals.now c.requires.arrivals) _ stands c.args.moment.now.signs.now c.args.moment.now.since.now c.serve.new.served c.reach_ends-out.new.leaving c.reach_ends-out.new.queues c.clear.new.amounts c.reach_ends-out.new.held (record { leaving = c.reach_ends-out.ensures.leaving; queues = c.reach_ends-out.ensures.queues; held = c.reach_ends-out.ensures.held; none = rw c.links-all.ensures.value at c.clear.ensures; serves = c.serve.ensures })
+    are-held c.args.moment.now.net.now c.links-all.ensures.network (arriving_of c.args.moment.now.arrivals.now) c.args.moment.now.store.now (signs_by (g.T.Lights.lines c.args.moment.now.lights.now)) (few-of c.args.moment.now.net.now c.links-all.ensures.network c.args.moment.now.arrivals.now c.requires.arrivals) (sources-of c.args.moment.now.net.now c.args.moment.now.arrivals.now c.requires.arrivals) _ stands c.args.moment.now.signs.now c.args.moment.now.since.now c.serve.new.rates c.reach_ends-out.new.leaving c.reach_ends-out.new.queues c.clear.new.amounts c.reach_ends-out.new.held (record { leaving = c.reach_ends-out.ensures.leaving; queues = c.reach_ends-out.ensures.queues; held = c.reach_ends-out.ensures.held; none = rw c.links-all.ensures.value at c.clear.ensures; serves = c.serve.ensures })
 
 pub let_in-come-requires-clause-fits : goal.let_in-come-requires-clause-fits
 let_in-come-requires-clause-fits g c l h =
-    let stands = stands-seen c.args.moment.now.net.now (arriving_of c.args.moment.now.arrivals.now) (slice_index c.args.moment.now.store.now) (signs_by (g.T.Lights.lines c.args.moment.now.lights.now)) (state_of c.args.links.now c.args.moment.now.second c.requires.stands.signs c.requires.stands.since c.args.moment.now.totals)
+    let stands = stands-seen c.args.moment.now.net.now (arriving_of c.args.moment.now.arrivals.now) (slice_index c.args.moment.now.store.now) (signs_by (g.T.Lights.lines c.args.moment.now.lights.now)) (state_of c.args.links.now c.args.moment.now.second c.requires.stands.signs c.requires.stands.since c.args.moment.now.walks c.args.moment.now.totals)
     c.as_mut_slice-queues.result.now c.as_mut_slice-recent.result.now c.as_mut_slice-waits.result.now c.args.links.now.stood.items c.as_mut_slice-outside.result.now c.as_mut_slice-held.result.now
     c.as_mut_slice-queues.ensures.value c.as_mut_slice-recent.ensures.value c.as_mut_slice-waits.ensures.value refl c.as_mut_slice-outside.ensures.value c.as_mut_slice-held.ensures.value c.requires.stands.stands in
     let fits = outside-fits c.args.moment.now.net.now c.links-all.ensures.network (arriving_of c.args.moment.now.arrivals.now) c.args.moment.now.store.now (signs_by (g.T.Lights.lines c.args.moment.now.lights.now)) (few-of c.args.moment.now.net.now c.links-all.ensures.network c.args.moment.now.arrivals.now c.requires.arrivals) (sources-of c.args.moment.now.net.now c.args.moment.now.arrivals.now c.requires.arrivals) _ stands l (omega (arith, h, c.links-all.ensures.value)) in
@@ -99,41 +99,41 @@ let_in-come-requires-clause-fits g c l h =
 
 pub remember-requires-clause-fits : goal.remember-requires-clause-fits
 remember-requires-clause-fits g c l h =
-    let stands = stands-seen c.args.moment.now.net.now (arriving_of c.args.moment.now.arrivals.now) (slice_index c.args.moment.now.store.now) (signs_by (g.T.Lights.lines c.args.moment.now.lights.now)) (state_of c.args.links.now c.args.moment.now.second c.requires.stands.signs c.requires.stands.since c.args.moment.now.totals)
+    let stands = stands-seen c.args.moment.now.net.now (arriving_of c.args.moment.now.arrivals.now) (slice_index c.args.moment.now.store.now) (signs_by (g.T.Lights.lines c.args.moment.now.lights.now)) (state_of c.args.links.now c.args.moment.now.second c.requires.stands.signs c.requires.stands.since c.args.moment.now.walks c.args.moment.now.totals)
     c.as_mut_slice-queues.result.now c.as_mut_slice-recent.result.now c.as_mut_slice-waits.result.now c.as_mut_slice.result.now c.as_mut_slice-outside.result.now c.as_mut_slice-held.result.now
     c.as_mut_slice-queues.ensures.value c.as_mut_slice-recent.ensures.value c.as_mut_slice-waits.ensures.value c.as_mut_slice.ensures.value c.as_mut_slice-outside.ensures.value c.as_mut_slice-held.ensures.value c.requires.stands.stands in
     stood-small c.args.moment.now.net.now c.links-all.ensures.network (arriving_of c.args.moment.now.arrivals.now) c.args.moment.now.store.now (signs_by (g.T.Lights.lines c.args.moment.now.lights.now)) (few-of c.args.moment.now.net.now c.links-all.ensures.network c.args.moment.now.arrivals.now c.requires.arrivals) (sources-of c.args.moment.now.net.now c.args.moment.now.arrivals.now c.requires.arrivals) _ stands c.requires.second l (omega (arith, h, c.links-all.ensures.value))
 
 pub overflow_add-entered : goal.overflow_add-entered
 overflow_add-entered g c =
-    let stands = stands-seen c.args.moment.now.net.now (arriving_of c.args.moment.now.arrivals.now) (slice_index c.args.moment.now.store.now) (signs_by (g.T.Lights.lines c.args.moment.now.lights.now)) (state_of c.args.links.now c.args.moment.now.second c.requires.stands.signs c.requires.stands.since c.args.moment.now.totals)
+    let stands = stands-seen c.args.moment.now.net.now (arriving_of c.args.moment.now.arrivals.now) (slice_index c.args.moment.now.store.now) (signs_by (g.T.Lights.lines c.args.moment.now.lights.now)) (state_of c.args.links.now c.args.moment.now.second c.requires.stands.signs c.requires.stands.since c.args.moment.now.walks c.args.moment.now.totals)
     c.as_mut_slice-queues.result.now c.as_mut_slice-recent.result.now c.as_mut_slice-waits.result.now c.as_mut_slice.result.now c.as_mut_slice-outside.result.now c.as_mut_slice-held.result.now
     c.as_mut_slice-queues.ensures.value c.as_mut_slice-recent.ensures.value c.as_mut_slice-waits.ensures.value c.as_mut_slice.ensures.value c.as_mut_slice-outside.ensures.value c.as_mut_slice-held.ensures.value c.requires.stands.stands in
-    let room = room-entered c.args.moment.now.net.now c.links-all.ensures.network (arriving_of c.args.moment.now.arrivals.now) c.args.moment.now.store.now (signs_by (g.T.Lights.lines c.args.moment.now.lights.now)) (few-of c.args.moment.now.net.now c.links-all.ensures.network c.args.moment.now.arrivals.now c.requires.arrivals) (sources-of c.args.moment.now.net.now c.args.moment.now.arrivals.now c.requires.arrivals) _ stands c.args.moment.now.signs.now c.args.moment.now.since.now c.serve.new.served c.reach_ends-out.new.leaving c.reach_ends-out.new.queues c.clear.new.amounts c.reach_ends-out.new.held (record { leaving = c.reach_ends-out.ensures.leaving; queues = c.reach_ends-out.ensures.queues; held = c.reach_ends-out.ensures.held; none = rw c.links-all.ensures.value at c.clear.ensures; serves = c.serve.ensures }) c.requires.second c.requires.since (seen-by c.args.moment.now.signs.now (length c.args.moment.now.net.now.node_names) (g.T.Lights.lines c.args.moment.now.lights.now) c.args.moment.now.second c.requires.signs) c.discharge.new.leaving c.discharge.new.queues c.discharge.new.entering c.discharge.new.held c.discharge.ensures in
+    let room = room-entered c.args.moment.now.net.now c.links-all.ensures.network (arriving_of c.args.moment.now.arrivals.now) c.args.moment.now.store.now (signs_by (g.T.Lights.lines c.args.moment.now.lights.now)) (few-of c.args.moment.now.net.now c.links-all.ensures.network c.args.moment.now.arrivals.now c.requires.arrivals) (sources-of c.args.moment.now.net.now c.args.moment.now.arrivals.now c.requires.arrivals) _ stands c.args.moment.now.signs.now c.args.moment.now.since.now c.serve.new.rates c.reach_ends-out.new.leaving c.reach_ends-out.new.queues c.clear.new.amounts c.reach_ends-out.new.held (record { leaving = c.reach_ends-out.ensures.leaving; queues = c.reach_ends-out.ensures.queues; held = c.reach_ends-out.ensures.held; none = rw c.links-all.ensures.value at c.clear.ensures; serves = c.serve.ensures }) c.requires.second c.requires.since (seen-by c.args.moment.now.signs.now (length c.args.moment.now.net.now.node_names) (g.T.Lights.lines c.args.moment.now.lights.now) c.args.moment.now.second c.requires.signs) c.discharge.new.leaving c.discharge.new.queues c.discharge.new.entering c.discharge.new.held c.discharge.ensures in
     let come = rw c.links-all.ensures.value at c.let_in-come.ensures.all in
     omega (arith, room, come)
 
 pub overflow_add-left : goal.overflow_add-left
 overflow_add-left g c =
-    let stands = stands-seen c.args.moment.now.net.now (arriving_of c.args.moment.now.arrivals.now) (slice_index c.args.moment.now.store.now) (signs_by (g.T.Lights.lines c.args.moment.now.lights.now)) (state_of c.args.links.now c.args.moment.now.second c.requires.stands.signs c.requires.stands.since c.args.moment.now.totals)
+    let stands = stands-seen c.args.moment.now.net.now (arriving_of c.args.moment.now.arrivals.now) (slice_index c.args.moment.now.store.now) (signs_by (g.T.Lights.lines c.args.moment.now.lights.now)) (state_of c.args.links.now c.args.moment.now.second c.requires.stands.signs c.requires.stands.since c.args.moment.now.walks c.args.moment.now.totals)
     c.as_mut_slice-queues.result.now c.as_mut_slice-recent.result.now c.as_mut_slice-waits.result.now c.as_mut_slice.result.now c.as_mut_slice-outside.result.now c.as_mut_slice-held.result.now
     c.as_mut_slice-queues.ensures.value c.as_mut_slice-recent.ensures.value c.as_mut_slice-waits.ensures.value c.as_mut_slice.ensures.value c.as_mut_slice-outside.ensures.value c.as_mut_slice-held.ensures.value c.requires.stands.stands in
-    let room = room-entered c.args.moment.now.net.now c.links-all.ensures.network (arriving_of c.args.moment.now.arrivals.now) c.args.moment.now.store.now (signs_by (g.T.Lights.lines c.args.moment.now.lights.now)) (few-of c.args.moment.now.net.now c.links-all.ensures.network c.args.moment.now.arrivals.now c.requires.arrivals) (sources-of c.args.moment.now.net.now c.args.moment.now.arrivals.now c.requires.arrivals) _ stands c.args.moment.now.signs.now c.args.moment.now.since.now c.serve.new.served c.reach_ends-out.new.leaving c.reach_ends-out.new.queues c.clear.new.amounts c.reach_ends-out.new.held (record { leaving = c.reach_ends-out.ensures.leaving; queues = c.reach_ends-out.ensures.queues; held = c.reach_ends-out.ensures.held; none = rw c.links-all.ensures.value at c.clear.ensures; serves = c.serve.ensures }) c.requires.second c.requires.since (seen-by c.args.moment.now.signs.now (length c.args.moment.now.net.now.node_names) (g.T.Lights.lines c.args.moment.now.lights.now) c.args.moment.now.second c.requires.signs) c.discharge.new.leaving c.discharge.new.queues c.discharge.new.entering c.discharge.new.held c.discharge.ensures in
-    let less = room-left c.args.moment.now.net.now c.links-all.ensures.network (arriving_of c.args.moment.now.arrivals.now) c.args.moment.now.store.now (signs_by (g.T.Lights.lines c.args.moment.now.lights.now)) (few-of c.args.moment.now.net.now c.links-all.ensures.network c.args.moment.now.arrivals.now c.requires.arrivals) (sources-of c.args.moment.now.net.now c.args.moment.now.arrivals.now c.requires.arrivals) _ stands c.args.moment.now.signs.now c.args.moment.now.since.now c.serve.new.served c.reach_ends-out.new.leaving c.reach_ends-out.new.queues c.clear.new.amounts c.reach_ends-out.new.held (record { leaving = c.reach_ends-out.ensures.leaving; queues = c.reach_ends-out.ensures.queues; held = c.reach_ends-out.ensures.held; none = rw c.links-all.ensures.value at c.clear.ensures; serves = c.serve.ensures }) c.requires.second c.requires.since (seen-by c.args.moment.now.signs.now (length c.args.moment.now.net.now.node_names) (g.T.Lights.lines c.args.moment.now.lights.now) c.args.moment.now.second c.requires.signs) c.discharge.new.leaving c.discharge.new.queues c.discharge.new.entering c.discharge.new.held c.discharge.ensures in
+    let room = room-entered c.args.moment.now.net.now c.links-all.ensures.network (arriving_of c.args.moment.now.arrivals.now) c.args.moment.now.store.now (signs_by (g.T.Lights.lines c.args.moment.now.lights.now)) (few-of c.args.moment.now.net.now c.links-all.ensures.network c.args.moment.now.arrivals.now c.requires.arrivals) (sources-of c.args.moment.now.net.now c.args.moment.now.arrivals.now c.requires.arrivals) _ stands c.args.moment.now.signs.now c.args.moment.now.since.now c.serve.new.rates c.reach_ends-out.new.leaving c.reach_ends-out.new.queues c.clear.new.amounts c.reach_ends-out.new.held (record { leaving = c.reach_ends-out.ensures.leaving; queues = c.reach_ends-out.ensures.queues; held = c.reach_ends-out.ensures.held; none = rw c.links-all.ensures.value at c.clear.ensures; serves = c.serve.ensures }) c.requires.second c.requires.since (seen-by c.args.moment.now.signs.now (length c.args.moment.now.net.now.node_names) (g.T.Lights.lines c.args.moment.now.lights.now) c.args.moment.now.second c.requires.signs) c.discharge.new.leaving c.discharge.new.queues c.discharge.new.entering c.discharge.new.held c.discharge.ensures in
+    let less = room-left c.args.moment.now.net.now c.links-all.ensures.network (arriving_of c.args.moment.now.arrivals.now) c.args.moment.now.store.now (signs_by (g.T.Lights.lines c.args.moment.now.lights.now)) (few-of c.args.moment.now.net.now c.links-all.ensures.network c.args.moment.now.arrivals.now c.requires.arrivals) (sources-of c.args.moment.now.net.now c.args.moment.now.arrivals.now c.requires.arrivals) _ stands c.args.moment.now.signs.now c.args.moment.now.since.now c.serve.new.rates c.reach_ends-out.new.leaving c.reach_ends-out.new.queues c.clear.new.amounts c.reach_ends-out.new.held (record { leaving = c.reach_ends-out.ensures.leaving; queues = c.reach_ends-out.ensures.queues; held = c.reach_ends-out.ensures.held; none = rw c.links-all.ensures.value at c.clear.ensures; serves = c.serve.ensures }) c.requires.second c.requires.since (seen-by c.args.moment.now.signs.now (length c.args.moment.now.net.now.node_names) (g.T.Lights.lines c.args.moment.now.lights.now) c.args.moment.now.second c.requires.signs) c.discharge.new.leaving c.discharge.new.queues c.discharge.new.entering c.discharge.new.held c.discharge.ensures in
     omega (arith, room, less, c.reach_ends-out.ensures.out)
 
 pub overflow_sub-result : goal.overflow_sub-result
 overflow_sub-result g c =
-    let stands = stands-seen c.args.moment.now.net.now (arriving_of c.args.moment.now.arrivals.now) (slice_index c.args.moment.now.store.now) (signs_by (g.T.Lights.lines c.args.moment.now.lights.now)) (state_of c.args.links.now c.args.moment.now.second c.requires.stands.signs c.requires.stands.since c.args.moment.now.totals)
+    let stands = stands-seen c.args.moment.now.net.now (arriving_of c.args.moment.now.arrivals.now) (slice_index c.args.moment.now.store.now) (signs_by (g.T.Lights.lines c.args.moment.now.lights.now)) (state_of c.args.links.now c.args.moment.now.second c.requires.stands.signs c.requires.stands.since c.args.moment.now.walks c.args.moment.now.totals)
     c.as_mut_slice-queues.result.now c.as_mut_slice-recent.result.now c.as_mut_slice-waits.result.now c.as_mut_slice.result.now c.as_mut_slice-outside.result.now c.as_mut_slice-held.result.now
     c.as_mut_slice-queues.ensures.value c.as_mut_slice-recent.ensures.value c.as_mut_slice-waits.ensures.value c.as_mut_slice.ensures.value c.as_mut_slice-outside.ensures.value c.as_mut_slice-held.ensures.value c.requires.stands.stands in
-    let less = room-left c.args.moment.now.net.now c.links-all.ensures.network (arriving_of c.args.moment.now.arrivals.now) c.args.moment.now.store.now (signs_by (g.T.Lights.lines c.args.moment.now.lights.now)) (few-of c.args.moment.now.net.now c.links-all.ensures.network c.args.moment.now.arrivals.now c.requires.arrivals) (sources-of c.args.moment.now.net.now c.args.moment.now.arrivals.now c.requires.arrivals) _ stands c.args.moment.now.signs.now c.args.moment.now.since.now c.serve.new.served c.reach_ends-out.new.leaving c.reach_ends-out.new.queues c.clear.new.amounts c.reach_ends-out.new.held (record { leaving = c.reach_ends-out.ensures.leaving; queues = c.reach_ends-out.ensures.queues; held = c.reach_ends-out.ensures.held; none = rw c.links-all.ensures.value at c.clear.ensures; serves = c.serve.ensures }) c.requires.second c.requires.since (seen-by c.args.moment.now.signs.now (length c.args.moment.now.net.now.node_names) (g.T.Lights.lines c.args.moment.now.lights.now) c.args.moment.now.second c.requires.signs) c.discharge.new.leaving c.discharge.new.queues c.discharge.new.entering c.discharge.new.held c.discharge.ensures in
+    let less = room-left c.args.moment.now.net.now c.links-all.ensures.network (arriving_of c.args.moment.now.arrivals.now) c.args.moment.now.store.now (signs_by (g.T.Lights.lines c.args.moment.now.lights.now)) (few-of c.args.moment.now.net.now c.links-all.ensures.network c.args.moment.now.arrivals.now c.requires.arrivals) (sources-of c.args.moment.now.net.now c.args.moment.now.arrivals.now c.requires.arrivals) _ stands c.args.moment.now.signs.now c.args.moment.now.since.now c.serve.new.rates c.reach_ends-out.new.leaving c.reach_ends-out.new.queues c.clear.new.amounts c.reach_ends-out.new.held (record { leaving = c.reach_ends-out.ensures.leaving; queues = c.reach_ends-out.ensures.queues; held = c.reach_ends-out.ensures.held; none = rw c.links-all.ensures.value at c.clear.ensures; serves = c.serve.ensures }) c.requires.second c.requires.since (seen-by c.args.moment.now.signs.now (length c.args.moment.now.net.now.node_names) (g.T.Lights.lines c.args.moment.now.lights.now) c.args.moment.now.second c.requires.signs) c.discharge.new.leaving c.discharge.new.queues c.discharge.new.entering c.discharge.new.held c.discharge.ensures in
     let come = rw c.links-all.ensures.value at c.let_in-come.ensures.all in
     omega (arith, less, come, c.reach_ends-out.ensures.out)
 
 pub overflow_add-result-2 : goal.overflow_add-result-2
 overflow_add-result-2 g c =
-    let stands = stands-seen c.args.moment.now.net.now (arriving_of c.args.moment.now.arrivals.now) (slice_index c.args.moment.now.store.now) (signs_by (g.T.Lights.lines c.args.moment.now.lights.now)) (state_of c.args.links.now c.args.moment.now.second c.requires.stands.signs c.requires.stands.since c.args.moment.now.totals)
+    let stands = stands-seen c.args.moment.now.net.now (arriving_of c.args.moment.now.arrivals.now) (slice_index c.args.moment.now.store.now) (signs_by (g.T.Lights.lines c.args.moment.now.lights.now)) (state_of c.args.links.now c.args.moment.now.second c.requires.stands.signs c.requires.stands.since c.args.moment.now.walks c.args.moment.now.totals)
     c.as_mut_slice-queues.result.now c.as_mut_slice-recent.result.now c.as_mut_slice-waits.result.now c.as_mut_slice.result.now c.as_mut_slice-outside.result.now c.as_mut_slice-held.result.now
     c.as_mut_slice-queues.ensures.value c.as_mut_slice-recent.ensures.value c.as_mut_slice-waits.ensures.value c.as_mut_slice.ensures.value c.as_mut_slice-outside.ensures.value c.as_mut_slice-held.ensures.value c.requires.stands.stands in
     let most = delay-most c.args.moment.now.net.now c.links-all.ensures.network (arriving_of c.args.moment.now.arrivals.now) c.args.moment.now.store.now (signs_by (g.T.Lights.lines c.args.moment.now.lights.now)) (few-of c.args.moment.now.net.now c.links-all.ensures.network c.args.moment.now.arrivals.now c.requires.arrivals) (sources-of c.args.moment.now.net.now c.args.moment.now.arrivals.now c.requires.arrivals) _ stands in
@@ -142,16 +142,16 @@ overflow_add-result-2 g c =
 
 pub returns-clause-whole : goal.returns-clause-whole
 returns-clause-whole g c =
-    let stands = stands-seen c.args.moment.now.net.now (arriving_of c.args.moment.now.arrivals.now) (slice_index c.args.moment.now.store.now) (signs_by (g.T.Lights.lines c.args.moment.now.lights.now)) (state_of c.args.links.now c.args.moment.now.second c.requires.stands.signs c.requires.stands.since c.args.moment.now.totals)
+    let stands = stands-seen c.args.moment.now.net.now (arriving_of c.args.moment.now.arrivals.now) (slice_index c.args.moment.now.store.now) (signs_by (g.T.Lights.lines c.args.moment.now.lights.now)) (state_of c.args.links.now c.args.moment.now.second c.requires.stands.signs c.requires.stands.since c.args.moment.now.walks c.args.moment.now.totals)
     c.as_mut_slice-queues.result.now c.as_mut_slice-recent.result.now c.as_mut_slice-waits.result.now c.as_mut_slice.result.now c.as_mut_slice-outside.result.now c.as_mut_slice-held.result.now
     c.as_mut_slice-queues.ensures.value c.as_mut_slice-recent.ensures.value c.as_mut_slice-waits.ensures.value c.as_mut_slice.ensures.value c.as_mut_slice-outside.ensures.value c.as_mut_slice-held.ensures.value c.requires.stands.stands in
-    let less = room-left c.args.moment.now.net.now c.links-all.ensures.network (arriving_of c.args.moment.now.arrivals.now) c.args.moment.now.store.now (signs_by (g.T.Lights.lines c.args.moment.now.lights.now)) (few-of c.args.moment.now.net.now c.links-all.ensures.network c.args.moment.now.arrivals.now c.requires.arrivals) (sources-of c.args.moment.now.net.now c.args.moment.now.arrivals.now c.requires.arrivals) _ stands c.args.moment.now.signs.now c.args.moment.now.since.now c.serve.new.served c.reach_ends-out.new.leaving c.reach_ends-out.new.queues c.clear.new.amounts c.reach_ends-out.new.held (record { leaving = c.reach_ends-out.ensures.leaving; queues = c.reach_ends-out.ensures.queues; held = c.reach_ends-out.ensures.held; none = rw c.links-all.ensures.value at c.clear.ensures; serves = c.serve.ensures }) c.requires.second c.requires.since (seen-by c.args.moment.now.signs.now (length c.args.moment.now.net.now.node_names) (g.T.Lights.lines c.args.moment.now.lights.now) c.args.moment.now.second c.requires.signs) c.discharge.new.leaving c.discharge.new.queues c.discharge.new.entering c.discharge.new.held c.discharge.ensures in
+    let less = room-left c.args.moment.now.net.now c.links-all.ensures.network (arriving_of c.args.moment.now.arrivals.now) c.args.moment.now.store.now (signs_by (g.T.Lights.lines c.args.moment.now.lights.now)) (few-of c.args.moment.now.net.now c.links-all.ensures.network c.args.moment.now.arrivals.now c.requires.arrivals) (sources-of c.args.moment.now.net.now c.args.moment.now.arrivals.now c.requires.arrivals) _ stands c.args.moment.now.signs.now c.args.moment.now.since.now c.serve.new.rates c.reach_ends-out.new.leaving c.reach_ends-out.new.queues c.clear.new.amounts c.reach_ends-out.new.held (record { leaving = c.reach_ends-out.ensures.leaving; queues = c.reach_ends-out.ensures.queues; held = c.reach_ends-out.ensures.held; none = rw c.links-all.ensures.value at c.clear.ensures; serves = c.serve.ensures }) c.requires.second c.requires.since (seen-by c.args.moment.now.signs.now (length c.args.moment.now.net.now.node_names) (g.T.Lights.lines c.args.moment.now.lights.now) c.args.moment.now.second c.requires.signs) c.discharge.new.leaving c.discharge.new.queues c.discharge.new.entering c.discharge.new.held c.discharge.ensures in
     let come = rw c.links-all.ensures.value at c.let_in-come.ensures.all in
     omega (arith, less, come, c.reach_ends-out.ensures.out)
 
 pub returns-clause-stands : goal.returns-clause-stands
 returns-clause-stands g c =
-    let stands = stands-seen c.args.moment.now.net.now (arriving_of c.args.moment.now.arrivals.now) (slice_index c.args.moment.now.store.now) (signs_by (g.T.Lights.lines c.args.moment.now.lights.now)) (state_of c.args.links.now c.args.moment.now.second c.requires.stands.signs c.requires.stands.since c.args.moment.now.totals)
+    let stands = stands-seen c.args.moment.now.net.now (arriving_of c.args.moment.now.arrivals.now) (slice_index c.args.moment.now.store.now) (signs_by (g.T.Lights.lines c.args.moment.now.lights.now)) (state_of c.args.links.now c.args.moment.now.second c.requires.stands.signs c.requires.stands.since c.args.moment.now.walks c.args.moment.now.totals)
     c.as_mut_slice-queues.result.now c.as_mut_slice-recent.result.now c.as_mut_slice-waits.result.now c.as_mut_slice.result.now c.as_mut_slice-outside.result.now c.as_mut_slice-held.result.now
     c.as_mut_slice-queues.ensures.value c.as_mut_slice-recent.ensures.value c.as_mut_slice-waits.ensures.value c.as_mut_slice.ensures.value c.as_mut_slice-outside.ensures.value c.as_mut_slice-held.ensures.value c.requires.stands.stands in
     let s = c.requires.stands.stands.shape in
@@ -165,6 +165,7 @@ returns-clause-stands g c =
       second = c.args.moment.now.second + 1;
       signs = c.args.moment.now.signs.now;
       since = c.args.moment.now.since.now;
+      walks = c.args.moment.now.walks;
       queues = c.discharge.new.queues;
       recent = c.let_in-come.new.recent;
       waits = c.remember.new.waits;
@@ -186,7 +187,7 @@ returns-clause-stands g c =
     (with_items_is c.args.links.now.stood c.remember.new.stood (omega (arith, stood, s.stood, c.args.links.now.stood.ok.0)))
     (with_items_is c.args.links.now.outside c.let_in-come.new.outside (omega (arith, outside, s.outside, c.args.links.now.outside.ok.0)))
     (with_items_is c.args.links.now.held c.let_in-come.new.held (omega (arith, held, s.held, c.args.links.now.held.ok.0)))
-    (stands-next c.args.moment.now.net.now c.links-all.ensures.network (arriving_of c.args.moment.now.arrivals.now) c.args.moment.now.store.now (signs_by (g.T.Lights.lines c.args.moment.now.lights.now)) (few-of c.args.moment.now.net.now c.links-all.ensures.network c.args.moment.now.arrivals.now c.requires.arrivals) (sources-of c.args.moment.now.net.now c.args.moment.now.arrivals.now c.requires.arrivals) _ stands c.args.moment.now.signs.now c.args.moment.now.since.now c.serve.new.served c.reach_ends-out.new.leaving c.reach_ends-out.new.queues c.clear.new.amounts c.reach_ends-out.new.held (record { leaving = c.reach_ends-out.ensures.leaving; queues = c.reach_ends-out.ensures.queues; held = c.reach_ends-out.ensures.held; none = rw c.links-all.ensures.value at c.clear.ensures; serves = c.serve.ensures }) c.requires.second c.requires.since (seen-by c.args.moment.now.signs.now (length c.args.moment.now.net.now.node_names) (g.T.Lights.lines c.args.moment.now.lights.now) c.args.moment.now.second c.requires.signs) c.discharge.new.leaving c.discharge.new.queues c.discharge.new.entering c.discharge.new.held c.discharge.ensures
+    (stands-next c.args.moment.now.net.now c.links-all.ensures.network (arriving_of c.args.moment.now.arrivals.now) c.args.moment.now.store.now (signs_by (g.T.Lights.lines c.args.moment.now.lights.now)) (few-of c.args.moment.now.net.now c.links-all.ensures.network c.args.moment.now.arrivals.now c.requires.arrivals) (sources-of c.args.moment.now.net.now c.args.moment.now.arrivals.now c.requires.arrivals) _ stands c.args.moment.now.signs.now c.args.moment.now.since.now c.serve.new.rates c.reach_ends-out.new.leaving c.reach_ends-out.new.queues c.clear.new.amounts c.reach_ends-out.new.held (record { leaving = c.reach_ends-out.ensures.leaving; queues = c.reach_ends-out.ensures.queues; held = c.reach_ends-out.ensures.held; none = rw c.links-all.ensures.value at c.clear.ensures; serves = c.serve.ensures }) c.requires.second c.requires.since (seen-by c.args.moment.now.signs.now (length c.args.moment.now.net.now.node_names) (g.T.Lights.lines c.args.moment.now.lights.now) c.args.moment.now.second c.requires.signs) c.discharge.new.leaving c.discharge.new.queues c.discharge.new.entering c.discharge.new.held c.discharge.ensures
     v
     (record {
       outside = rw c.links-all.ensures.value at c.let_in-come.ensures.outside;
@@ -198,7 +199,7 @@ returns-clause-stands g c =
       stands = rw c.links-all.ensures.value at c.remember.ensures.stood;
     })
     refl refl refl refl
-    (record { signs = c.requires.nodes; since = c.requires.links; queues = queues; recent = recent; waits = waits; stood = stood; outside = outside; held = held })
+    (record { signs = c.requires.nodes; since = c.requires.links; walks = s.walks; queues = queues; recent = recent; waits = waits; stood = stood; outside = outside; held = held })
     (let come = rw c.links-all.ensures.value at c.let_in-come.ensures.all in omega (arith, come))
     (omega (arith, c.reach_ends-out.ensures.out))
     refl

@@ -18,6 +18,7 @@ returns-clause-stands c arriving shown =
       waits = ap length c.in_ok-waits.ensures ∙ length-replicate _ 0 ∙ ap (λ (n : ℕ). n * 128) links;
       stood = ap length c.in_ok-stood.ensures ∙ length-replicate _ 0 ∙ links;
       counts = ap length c.in_ok-counts.ensures ∙ length-replicate _ no_totals ∙ links;
+      walks = c.has_walks.ensures;
     })
     (λ k. rw c.in_ok-queues.ensures (zeros _ k 0))
     (λ k. rw c.in_ok-recent.ensures (zeros _ k 0))
