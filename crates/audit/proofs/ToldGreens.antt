@@ -1,6 +1,7 @@
 -- What a report tells of a line shows each link green as the line does.
 use Rattle.std.proofs.Common.{◌≡◌, ◌≢◌, ℕ, zero, suc, ◌+◌, ◌<◌, ◌≤◌, Bool, true, false, not, ◌&&◌, ◌||◌, ◌==◌, ◌⊎◌, cond, List, [], ◌∷◌, length, count_by, All, Option, None, Some, refl, sym, ap, subst, ◌∙◌, inl, inr, arith}
-use Rattle.std.proofs.lemmas.Bool.{and_parts, cases_Bool, cases_lt, false≢true, lt-ltb}
+use Rattle.std.specs.Option.{is_none}
+use Rattle.std.proofs.lemmas.Bool.{and_parts, cases_Bool, cases_lt, false≢true}
 use Rattle.std.proofs.lemmas.List.{get_or_past}
 use Rattle.std.proofs.lemmas.List.Folds.{list_any_at}
 use Rattle.std.proofs.lemmas.List.Sums.{sum_by-cons}
@@ -8,7 +9,7 @@ use Rattle.phase_plan.specs.Phases.{IsMarkedAt, IsPlan, between, is_unmarked, ph
 use Rattle.phase_plan.specs.declared.Phase.{Phase}
 use Rattle.net_parts.specs.Numbers.{Net, has_link}
 use Rattle.net_parts.specs.Outline.{also_at, also_links_at, is_green_in, is_green_to, link_at}
-use Rattle.road_net.specs.Through.{is_through, names_further}
+use Rattle.road_net.specs.Through.{is_through, may_stay, names_staying}
 use Rattle.road_net.proofs.Serving.{is_link}
 use Rattle.control_flow.specs.Greens.{Follows, IsLawful}
 use Rattle.control_flow.specs.Signs.{is_on, sign_after, sign_at}
@@ -97,22 +98,29 @@ module _ (green : ℕ → Bool) (plan : List Phase) (p : IsPlan plan) (never : (
         inl (ap (λ (l : List Green). sign_at l second) (row-late false end r.from r rs late) ∙ sym (before-row None r rs second (omega (arith, late, early))))
   ]
 
--- ---- at a node that is not through a link is green in its home alone
+-- ---- at a node that is not through a link without a walk is green in its home alone
 
 either : (a b : Bool) → (a || b) ≡ true → (b ≡ true → ⊥) → a ≡ true
 either true b e never = refl
 either false b e never = absurd (never e)
 
-module _ (net : Net) (l node : ℕ) (to : (link_at net l).to ≡ Some node) (still : is_through net node ≡ false) where
+or-right : (a b : Bool) → b ≡ true → (a || b) ≡ true
+or-right true b e = refl
+or-right false b e = e
+
+module _ (net : Net) (l node : ℕ) (to : (link_at net l).to ≡ Some node) (walk : (link_at net l).walk ≡ None) (still : is_through net node ≡ false) where
+  names-it : (links : List ℕ) → has_link l links ≡ true → names_staying net links ≡ true
+  names-it [] has = absurd (false≢true has)
+  names-it (m ∷ ms) has = elim (cases_Bool (m == l)) [
+    | inl same ↦ list_any_at (may_stay net) (m ∷ ms) 0 m (omega arith) (ap (λ (k : ℕ). may_stay net k) (is_link m l same) ∙ ap is_none walk)
+    | inr other ↦ or-right (may_stay net m) (names_staying net ms) (names-it ms (ap (λ (b : Bool). b || has_link l ms) (sym other) ∙ has))
+  ]
+
   not-also : (k : ℕ) → has_link l (also_links_at net node k) ≡ true → ⊥
   not-also k has = elim (cases_lt k (length (also_at net node))) [
-    | inl inside ↦ false≢true (sym still ∙ list_any_at names_further (also_at net node) k [] inside (some (also_links_at net node k) has))
+    | inl inside ↦ false≢true (sym still ∙ list_any_at (names_staying net) (also_at net node) k [] inside (names-it (also_links_at net node k) has))
     | inr past ↦ false≢true (sym (ap (has_link l) (get_or_past (also_at net node) k [] past)) ∙ has)
   ]
-    where
-      some : (links : List ℕ) → has_link l links ≡ true → names_further links ≡ true
-      some [] none = absurd (false≢true none)
-      some (first ∷ links) one = lt-ltb 0 (length (first ∷ links)) (omega arith)
 
   home-alone : (k : ℕ) → is_green_in net l k ≡ true → (link_at net l).phase ≡ k
   home-alone k on =
@@ -127,11 +135,11 @@ module _ (net : Net) (l node : ℕ) (to : (link_at net l).to ≡ Some node) (sti
     | inr off ↦ off
   ]
 
--- what is told of a lawful line shows a link that ends at its node green as the line does
-pub told-alike : (net : Net) (l node : ℕ) → (link_at net l).to ≡ Some node → (plan : List Phase) → IsPlan plan → (end second : ℕ) → second < end → (rows : List Green) → IsLawful plan rows
-    → AreAlike (is_green_in net l) (sign_at (told_rows (is_through net node) end rows) second) (sign_at rows second)
-told-alike net l node to plan p end second early rows lawful = by (is_through net node) refl
+-- what is told of a lawful line shows a link without a walk that ends at its node green as the line does
+pub told-alike : (net : Net) (l node : ℕ) → (link_at net l).to ≡ Some node → (link_at net l).walk ≡ None → (plan : List Phase) → IsPlan plan → (end second : ℕ) → second < end
+    → (rows : List Green) → IsLawful plan rows → AreAlike (is_green_in net l) (sign_at (told_rows (is_through net node) end rows) second) (sign_at rows second)
+told-alike net l node to walk plan p end second early rows lawful = by (is_through net node) refl
   where
     by : (through : Bool) → is_through net node ≡ through → AreAlike (is_green_in net l) (sign_at (told_rows through end rows) second) (sign_at rows second)
     by true is = inl (told-shows end rows second early)
-    by false is = alike-at (is_green_in net l) plan p (never-two net l node to is) end second early rows lawful
+    by false is = alike-at (is_green_in net l) plan p (never-two net l node to walk is) end second early rows lawful

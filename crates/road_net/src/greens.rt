@@ -5,7 +5,7 @@ ghost use Rattle.net_parts.specs.Numbers.{has_link};
 ghost use Rattle.net_parts.specs.Outline.{IsOutline, is_green_in};
 ghost use Rattle.net_parts.specs.Parts.{net_of};
 ghost use Rattle.road_net.specs.Joins.{AreNeverBoth};
-ghost use Rattle.road_net.specs.Through.{is_through, names_further};
+ghost use Rattle.road_net.specs.Through.{is_through, may_stay, names_staying};
 
 use foundation::items::Items;
 use net_parts::Parts;
@@ -50,24 +50,36 @@ pub(crate) fn are_never_both(parts: &Parts, a: u32, b: u32) -> bool
     true
 }
 
-/// Whether a phase of the node names a further link.
+/// Whether a phase of the node names a further link that has no walk.
 pub(crate) fn is_through(parts: &Parts, node: u32) -> bool
     requires { node < length parts.now.also_links.items }
     ensures { result ≡ is_through (net_of parts.now) node }
 {
-    names_any(parts.also_links[node as usize].as_slice())
+    names_any(parts, parts.also_links[node as usize].as_slice())
 }
 
-/// Whether one of these lists has a link.
-fn names_any(lists: &[Items<u32>]) -> bool
-    ensures { result ≡ list_any names_further lists.now }
+/// Whether one of these lists has a link that has no walk.
+fn names_any(parts: &Parts, lists: &[Items<u32>]) -> bool
+    ensures { result ≡ list_any (names_staying (net_of parts.now)) lists.now }
 {
-    lists.iter().any(|links| names_further(links.as_slice()))
+    lists
+        .iter()
+        .any(|links| names_staying(parts, links.as_slice()))
 }
 
-/// Whether a list has a link.
-fn names_further(links: &[u32]) -> bool
-    ensures { result ≡ names_further links.now }
+/// Whether one of these links has no walk.
+fn names_staying(parts: &Parts, links: &[u32]) -> bool
+    ensures { result ≡ names_staying (net_of parts.now) links.now }
 {
-    links.len() > 0
+    links.iter().any(|l| may_stay(parts, *l))
+}
+
+/// Whether a link has no walk.
+fn may_stay(parts: &Parts, l: u32) -> bool
+    ensures { result ≡ may_stay (net_of parts.now) l }
+{
+    match parts.links.get(l as usize) {
+        Some(link) => link.walk.is_none(),
+        None => true,
+    }
 }
