@@ -81,12 +81,14 @@ class ForecastRow:
 
 @dataclass(frozen=True, slots=True)
 class WaitBounds:
-    """Within how many seconds a queue of a phase loses something under plans and under actuated control, or the word why there is no bound."""
+    """Within how many seconds a queue of a phase loses something under plans, under actuated control, and under the fixed plan that was
+    given, or the word why there is no bound."""
 
     node: str
     phase: int
     planned: int | str
     actuated: int | str
+    fixed: int | str | None = None
 
 
 @dataclass(frozen=True, slots=True)
@@ -153,7 +155,7 @@ def decision(text: TextIO) -> dict[str, list[Any]]:
 def wait_bounds(text: TextIO) -> dict[str, list[Any]]:
     """Of `bounds`: a row for each phase of each node."""
     rows = [record.fields for record in records_of(text.read())][1:]
-    return {"bounds": [WaitBounds(node, int(phase), *(int(x) if x.isdigit() else x for x in both)) for node, phase, *both in rows]}
+    return {"bounds": [WaitBounds(node, int(phase), *(int(x) if x.isdigit() else x for x in each)) for node, phase, *each in rows]}
 
 
 def summary(text: TextIO) -> dict[str, list[Any]]:

@@ -3,7 +3,7 @@ use Rattle.std.proofs.Common.{rules, ◌≡◌, ℕ, List, [], ◌∷◌, true, 
 use Rattle.std.proofs.lemmas.Bool.{false≢true}
 use Rattle.std.proofs.lemmas.Fmt.{decimal_injective}
 use Rattle.std.specs.Str.{bytes_eq}
-use Rattle.command_words.specs.Calls.{Actuate, Audit, Bounds, Call, IsCall, Certify, CertifyBound, CertifyPar, Check, Compare, CompareFixed, Decide, DecideNode, Fixed, Grid, Instance, Net, Plan, Queues, Replay, Scale, Spill, Turns, Upgrade, words_of}
+use Rattle.command_words.specs.Calls.{Actuate, Audit, Bounds, BoundsFixed, Call, IsCall, Certify, CertifyBound, CertifyPar, Check, Compare, CompareFixed, Decide, DecideNode, Fixed, Grid, Instance, Net, Plan, Queues, Replay, Scale, Spill, Turns, Upgrade, words_of}
 
 -- the first word
 first : List (List ℕ) → List ℕ
@@ -69,4 +69,7 @@ one_call words (Grid n s r) (Grid m t q) is other =
     cc
 one_call words (Upgrade n) (Upgrade m) is other = let e = is.words_are in let d = other.words_are in cc
 one_call words (Bounds n) (Bounds m) is other = let e = is.words_are in let d = other.words_are in cc
+one_call words (Bounds n) (BoundsFixed m q) is other = let e = is.words_are in let d = other.words_are in absurd (cc)
+one_call words (BoundsFixed n p) (Bounds m) is other = let e = is.words_are in let d = other.words_are in absurd (cc)
+one_call words (BoundsFixed n p) (BoundsFixed m q) is other = let e = is.words_are in let d = other.words_are in cc
 one_call words a b is other = absurd (false≢true (same_word words a b is other))

@@ -31,6 +31,7 @@ pub data Call : Type 0 where
   Grid : (number side rounds : ℕ) → Call
   Upgrade : (net : List ℕ) → Call
   Bounds : (net : List ℕ) → Call
+  BoundsFixed : (net plan : List ℕ) → Call
 
 -- the words of a command; a number stands in its one form, in decimal
 abbrev pub words_of : Call → List (List ℕ)
@@ -56,6 +57,7 @@ words_of (Queues net arr report) = codes "queues" ∷ net ∷ arr ∷ report ∷
 words_of (Grid number side rounds) = codes "grid" ∷ decimal number ∷ decimal side ∷ decimal rounds ∷ []
 words_of (Upgrade net) = codes "upgrade" ∷ net ∷ []
 words_of (Bounds net) = codes "bounds" ∷ net ∷ []
+words_of (BoundsFixed net plan) = codes "bounds" ∷ net ∷ plan ∷ []
 
 -- the numbers of a command are within their bounds
 abbrev pub IsWithin : Call → Type 0
@@ -116,3 +118,4 @@ call_of (command.Queues net arr report) = Queues net.now arr.now report.now
 call_of (command.Grid number side rounds) = Grid number side rounds
 call_of (command.Upgrade net) = Upgrade net.now
 call_of (command.Bounds net) = Bounds net.now
+call_of (command.BoundsFixed net plan) = BoundsFixed net.now plan.now

@@ -132,6 +132,11 @@ pub enum Command<'a> {
     Bounds {
         net: &'a str,
     },
+    /// Writes the same, and how long they can wait under a fixed plan.
+    BoundsFixed {
+        net: &'a str,
+        plan: &'a str,
+    },
 }
 
 /// The command that the words are.
@@ -168,9 +173,7 @@ pub fn command_of(words: &[Text]) -> Option<Command<'_>>
         "upgrade" => Some(Command::Upgrade {
             net: only_word(rest)?,
         }),
-        "bounds" => Some(Command::Bounds {
-            net: only_word(rest)?,
-        }),
+        "bounds" => bounds_of(rest),
         _ => network_command(word.as_str(), rest),
     }
 }
@@ -263,6 +266,21 @@ fn comparison_of(words: &[Text]) -> Option<Command<'_>>
         [net, arr, plan] => Some(Command::CompareFixed {
             net: net.as_str(),
             arr: arr.as_str(),
+            plan: plan.as_str(),
+        }),
+        _ => None,
+    }
+}
+
+// The bounds of waits, also under a fixed plan where that is named, where the words are those after `bounds`.
+fn bounds_of(words: &[Text]) -> Option<Command<'_>>
+    ensures some { IfSome result (λ command. IsCall (codes "bounds" ∷ words.now) (call_of command)) }
+    ensures none { IfNone result ((call : Call) → ¬ IsCall (codes "bounds" ∷ words.now) call) }
+{
+    match words {
+        [net] => Some(Command::Bounds { net: net.as_str() }),
+        [net, plan] => Some(Command::BoundsFixed {
+            net: net.as_str(),
             plan: plan.as_str(),
         }),
         _ => None,

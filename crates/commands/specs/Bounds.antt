@@ -2,6 +2,8 @@
 use Rattle.std.specs.Prelude.{ℕ, List, [], ◌∷◌, Result, Ok, Err, codes, length, map}
 use Rattle.std.specs.Fmt.{decimal}
 use Rattle.std.specs.List.{flat_map, range_with_len}
+use Rattle.fixed_plans.specs.FixedBounds.{fixed_bounds}
+use Rattle.fixed_plans.specs.declared.rows.FixedRow.{FixedRow}
 use Rattle.net_parts.specs.Numbers.{Net}
 use Rattle.net_parts.specs.Outline.{node_name_at, plan_at}
 use Rattle.waits.specs.Bounds.{phase_bounds}
@@ -31,3 +33,22 @@ header = codes "node" ∷ codes "phase" ∷ codes "planned" ∷ codes "actuated"
 -- the text: a record for each phase of each node, in the order of the network's file
 abbrev pub bounds_text : Net → List ℕ
 bounds_text net = records_text (header ∷ flat_map (bound_records net) (range_with_len 0 (length net.node_names)))
+
+-- ---- with a fixed plan
+
+-- the record of the bounds of a phase, with one field more: that under a fixed plan
+abbrev pub fixed_record : Net → PhaseBounds → Result ℕ NoBound → List (List ℕ)
+fixed_record net bounds fixed =
+    node_name_at net bounds.node ∷ decimal bounds.phase ∷ bound_field bounds.planned ∷ bound_field bounds.actuated ∷ bound_field fixed ∷ []
+
+-- the records of the bounds of a node's phases
+abbrev pub fixed_records : Net → List FixedRow → ℕ → List (List (List ℕ))
+fixed_records net rows node = map (λ k. fixed_record net (phase_bounds net node k) (fixed_bounds net rows node k)) (range_with_len 0 (length (plan_at net node)))
+
+-- the header of this text
+abbrev pub fixed_header : List (List ℕ)
+fixed_header = codes "node" ∷ codes "phase" ∷ codes "planned" ∷ codes "actuated" ∷ codes "fixed" ∷ []
+
+-- the text: a record for each phase of each node, in the order of the network's file
+abbrev pub fixed_bounds_text : Net → List FixedRow → List ℕ
+fixed_bounds_text net rows = records_text (fixed_header ∷ flat_map (fixed_records net rows) (range_with_len 0 (length net.node_names)))

@@ -21,9 +21,9 @@ use Rattle.net_simulator.specs.Worlds.{line_in}
 use Rattle.queue_series.specs.Series.{IsSeries}
 use Rattle.net_file.specs.Upgrade.{IsUpgraded}
 use Rattle.signal_safety.specs.Safe.{IsSafe}
-use Rattle.command_words.specs.Calls.{Actuate, Audit, Bounds, Call, Certify, CertifyBound, CertifyPar, Check, Compare, CompareFixed, Decide, DecideNode, Fixed, Grid, Instance, Net, Plan, Queues, Replay, Scale, Spill, Turns, Upgrade}
+use Rattle.command_words.specs.Calls.{Actuate, Audit, Bounds, BoundsFixed, Call, Certify, CertifyBound, CertifyPar, Check, Compare, CompareFixed, Decide, DecideNode, Fixed, Grid, Instance, Net, Plan, Queues, Replay, Scale, Spill, Turns, Upgrade}
 use Rattle.commands.specs.Answers.{answer_text}
-use Rattle.commands.specs.Bounds.{bounds_text}
+use Rattle.commands.specs.Bounds.{bounds_text, fixed_bounds_text}
 use Rattle.commands.specs.Controllers.{BringTooMuch, IsActuatedReport, IsComparison, IsComparisonWith, IsFixedReport, IsScaleTable, factors}
 use Rattle.commands.specs.Headline.{Headline, IsGridSummary, IsPlannedText, ToldHeadline}
 use Rattle.commands.specs.Kinds.{ArrivalsText, CertificateText, HistoryText, InstanceText, IsCertificateText, NetworkText, PlanText, SheetText, StateText, StoreText, node_state_of}
@@ -59,6 +59,7 @@ texts_of (Queues net arr report) = three_texts SheetText net arr report
 texts_of (Grid number side rounds) = NoMore
 texts_of (Upgrade net) = Next NetworkText net (λ network. NoMore)
 texts_of (Bounds net) = Next NetworkText net (λ network. NoMore)
+texts_of (BoundsFixed net plan) = two_texts PlanText net plan
 
 -- These bytes are a certificate's text that `check` accepts: the text is within the limit, and is the text of this certificate and no
 -- other; and the certificate proves its answer.
@@ -74,8 +75,8 @@ IsWholeCertificate p bytes =
     (c : Claim) × (c.problem ≡ p) × IsWhole c.problem c.entries × IsBest c.problem c.answer × (bytes ≡ certificate_text c)
     × IsAcceptedText bytes c
 
--- what is written where the work is done; of the texts of a network `said.0` is the network, `said.1.0` what enters it or a
--- state of it, and `said.1.1.0` the history, the sheet, the rows of the fixed plan or the store
+-- what is written where the work is done; of the texts of a network `said.0` is the network, `said.1.0` what enters it, a
+-- state of it or the rows of a fixed plan, and `said.1.1.0` the history, the sheet, the rows of the fixed plan or the store
 abbrev pub IsTextOf : (call : Call) → AllSaid (texts_of call) → List ℕ → Type 0
 IsTextOf (Plan file) said bytes = (answer : Answer) × IsBest said.0 answer × IsLeast said.0 answer × (bytes ≡ answer_text answer)
 IsTextOf (Certify file) said bytes = IsWholeCertificate said.0 bytes
@@ -102,6 +103,7 @@ IsTextOf (Queues net arr report) said bytes =
 IsTextOf (Grid number side rounds) said bytes = IsGridSummary number side rounds bytes
 IsTextOf (Upgrade net) said bytes = IsUpgraded bytes said.0
 IsTextOf (Bounds net) said bytes = bytes ≡ bounds_text said.0
+IsTextOf (BoundsFixed net plan) said bytes = bytes ≡ fixed_bounds_text said.0 said.1.0
 
 -- the verdict of a command goes against its texts; only `check`, `audit` and `queues` judge
 abbrev pub IsAgainst : (call : Call) → AllSaid (texts_of call) → Type 0

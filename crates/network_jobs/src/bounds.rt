@@ -1,10 +1,12 @@
-//! The command `bounds NET`.
-ghost use Rattle.command_words.specs.Calls.{Bounds};
+//! The commands `bounds NET` and `bounds NET PLAN`.
+ghost use Rattle.command_words.specs.Calls.{Bounds, BoundsFixed};
 ghost use Rattle.commands.specs.Ending.{Makes};
 ghost use Rattle.commands.specs.Outcome.{Outcome};
 
 use super::bounds_text::bounds_text;
-use commands::{Made, Refusal, Status, TextPlace, end, fetch};
+use super::fixed_bounds_text::fixed_bounds_text;
+use commands::{Made, NetworkWith, Refusal, Status, TextPlace, end, fetch, fetch_network_with};
+use fixed_plans::FixedPlan;
 use outside_world::{Shelf, Sink};
 use road_net::Network;
 use std::alloc::Global;
@@ -36,4 +38,39 @@ pub fn bounds_job<S: Shelf, O: Sink, E: Sink>(
         (record { shelf = S.state shelf.new; out = O.state out.new; err = E.state err.new }) result }
 {
     end(alloc, make_bounds(alloc, shelf, net), out, err)
+}
+
+// How long queues can wait in the network in the first file, also under the fixed plan in the second.
+fn make_fixed_bounds<S: Shelf>(
+    alloc: Global,
+    shelf: &mut S,
+    net: &str,
+    plan: &str,
+) -> Result<Made, Refusal>
+    ensures { Makes (BoundsFixed net.now plan.now) (S.state shelf.old) (S.state shelf.new) result }
+{
+    let read: NetworkWith<FixedPlan> = fetch_network_with(alloc, shelf, net, plan)?;
+    let text = fixed_bounds_text(alloc, &read.network, &read.value)?;
+    Ok(Made::Done(text))
+}
+
+/// The command `bounds NET PLAN`: writes the same, and within how many seconds a queue of each phase loses something under the fixed
+/// plan in the second file, or why there is no such bound.
+///
+/// Each status has its cause, and each refusal writes its line to `err`, as `signal` says.
+///
+/// docs/FORMATS.md, "Words".
+pub fn bounds_fixed_job<S: Shelf, O: Sink, E: Sink>(
+    alloc: Global,
+    net: &str,
+    plan: &str,
+    shelf: &mut S,
+    out: &mut O,
+    err: &mut E,
+) -> Status
+    ensures { Outcome (BoundsFixed net.now plan.now)
+        (record { shelf = S.state shelf.old; out = O.state out.old; err = E.state err.old })
+        (record { shelf = S.state shelf.new; out = O.state out.new; err = E.state err.new }) result }
+{
+    end(alloc, make_fixed_bounds(alloc, shelf, net, plan), out, err)
 }

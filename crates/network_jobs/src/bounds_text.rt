@@ -70,8 +70,8 @@ fn write_bounds(
     )
 }
 
-// A bound as a field: its seconds, or why there is none.
-fn bound_field(bound: Result<u32, NoBound>) -> Line
+/// A bound as a field: its seconds, or why there is none.
+pub(crate) fn bound_field(bound: Result<u32, NoBound>) -> Line
     ensures { result ≡ bounds.bound_field bound }
 {
     let mut field = Line::new();

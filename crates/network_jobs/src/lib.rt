@@ -6,6 +6,7 @@
 mod bounds;
 mod bounds_text;
 mod calls;
+mod fixed_bounds_text;
 mod grid;
 mod history_runs;
 mod instance;
@@ -17,7 +18,7 @@ mod summary;
 mod turns;
 mod upgrade;
 
-pub use bounds::bounds_job;
+pub use bounds::{bounds_fixed_job, bounds_job};
 pub use grid::grid_job;
 pub use instance::instance_job;
 pub use laws::{law_of_instances, law_of_replays};

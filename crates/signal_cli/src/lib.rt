@@ -12,7 +12,8 @@ pub use controller_jobs::{
     spill_job,
 };
 pub use network_jobs::{
-    bounds_job, grid_job, instance_job, net_job, replay_job, turns_job, upgrade_job,
+    bounds_fixed_job, bounds_job, grid_job, instance_job, net_job, replay_job, turns_job,
+    upgrade_job,
 };
 pub use planner_jobs::{
     certify_bound_job, certify_job, certify_par_job, check_job, law_of_whole_certificates, plan_job,

@@ -15,7 +15,8 @@ use controller_jobs::{
 };
 use foundation::text::Text;
 use network_jobs::{
-    bounds_job, grid_job, instance_job, net_job, replay_job, turns_job, upgrade_job,
+    bounds_fixed_job, bounds_job, grid_job, instance_job, net_job, replay_job, turns_job,
+    upgrade_job,
 };
 use outside_world::{Shelf, Sink};
 use planner_jobs::{certify_bound_job, certify_job, certify_par_job, check_job, plan_job};
@@ -108,6 +109,7 @@ fn run<R: Threads + Wait + Sync, S: Shelf, O: Sink, E: Sink, G: Gate + Sync>(
         } => grid_job(alloc, number, side, rounds, out, err),
         Command::Upgrade { net } => upgrade_job(alloc, net, shelf, out, err),
         Command::Bounds { net } => bounds_job(alloc, net, shelf, out, err),
+        Command::BoundsFixed { net, plan } => bounds_fixed_job(alloc, net, plan, shelf, out, err),
     }
 }
 

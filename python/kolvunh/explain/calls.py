@@ -29,7 +29,7 @@ FORMS: dict[str, tuple[str, ...]] = {
     "audit": ("NET ARR REPORT",),
     "queues": ("NET ARR REPORT",),
     "upgrade": ("NET",),
-    "bounds": ("NET",),
+    "bounds": ("NET", "NET PLAN"),
     "grid": ("NUMBER SIDE ROUNDS",),
 }
 BOUNDS = {
