@@ -56,4 +56,4 @@ if-any some has = record { items = Some has.items; are = has.are; none = λ e. a
 
 -- a list that is not empty, by the test of its slice
 pub not-empty : {X : Type 0} (xs ys : List X) → ys ≡ xs → {b : Bool} → b ≡ (length ys == 0) → b ≡ false → xs ≡ [] → ⊥
-not-empty xs ys same value no none = true≢false (sym (rw (same, none) at value) ∙ no)
+not-empty xs ys same value filled none = true≢false (sym (rw (same, none) at value) ∙ filled)

@@ -36,11 +36,11 @@ yield-read ds (Some given) are = rw (are.read 3 (λ k d h. tt)) refl
 
 given-fits : (yields : Option DraftYield) → IfSome yields (λ given. given.sat < 2 ^ 32) → given_read yields ≡ yields
 given-fits None fits = refl
-given-fits (Some given) fits i = Some (record { links = given.links; sat = field-fits given.sat fits i })
+given-fits (Some given) fits = λ i. Some (record { links = given.links; sat = field-fits given.sat fits i })
 
 walk-fits : (walk : Option Walk) → IfSome walk (λ w. (w.seconds < 2 ^ 32) × (w.cross < 2 ^ 32)) → walk_read walk ≡ walk
 walk-fits None fits = refl
-walk-fits (Some walk) fits i = Some (record { seconds = field-fits walk.seconds fits.0 i; cross = field-fits walk.cross fits.1 i })
+walk-fits (Some walk) fits = λ i. Some (record { seconds = field-fits walk.seconds fits.0 i; cross = field-fits walk.cross fits.1 i })
 
 module _ (name : List ℕ) (travel sat weight : ℕ) (ds : Items) where
   -- the members of a link, as they are put together
@@ -147,7 +147,7 @@ link-filled l {m9 = m9} name from to travel sat weight yields walk turns empty =
         | inl third ↦ rw (third, form-third l.name l.travel l.sat l.weight yields.items l.from l.to l.yields l.walk turns.items, given, turns.are.read 3 (λ k d h. tt))
             (λ i. Some (record { name = l.name; from = l.from; to = l.to; travel = field-fits l.travel travel.fits i; sat = field-fits l.sat sat.fits i; weight = field-fits l.weight weight.fits i; yields = given-fits l.yields yields.fits i; walk = walk-fits l.walk walk.fits i; turns = l.turns }))
         | inr second ↦ rw (second.0, second.1, second.2, form-second l.name l.travel l.sat l.weight yields.items l.from l.to turns.items, turns.are.read 2 (λ k d h. tt))
-            (λ i. Some (record { name = l.name; from = l.from; to = l.to; travel = field-fits l.travel travel.fits i; sat = field-fits l.sat sat.fits i; weight = field-fits l.weight weight.fits i; yields = sym second.1 i; walk = sym second.2 i; turns = l.turns }))
+            (λ i. Some (record { name = l.name; from = l.from; to = l.to; travel = field-fits l.travel travel.fits i; sat = field-fits l.sat sat.fits i; weight = field-fits l.weight weight.fits i; yields = l.yields; walk = l.walk; turns = l.turns }))
       ];
       depth = members-depth l.name l.travel l.sat l.weight yields.items l.from l.to l.yields l.walk turns.items yields.depth turns.are.depth;
     })
