@@ -147,7 +147,7 @@ link-filled l {m9 = m9} name from to travel sat weight yields walk turns empty =
         | inl third ↦ rw (third, form-third l.name l.travel l.sat l.weight yields.items l.from l.to l.yields l.walk turns.items, given, turns.are.read 3 (λ k d h. tt))
             (λ i. Some (record { name = l.name; from = l.from; to = l.to; travel = field-fits l.travel travel.fits i; sat = field-fits l.sat sat.fits i; weight = field-fits l.weight weight.fits i; yields = given-fits l.yields yields.fits i; walk = walk-fits l.walk walk.fits i; turns = l.turns }))
         | inr second ↦ rw (second.0, second.1, second.2, form-second l.name l.travel l.sat l.weight yields.items l.from l.to turns.items, turns.are.read 2 (λ k d h. tt))
-            (λ i. Some (record { name = l.name; from = l.from; to = l.to; travel = field-fits l.travel travel.fits i; sat = field-fits l.sat sat.fits i; weight = field-fits l.weight weight.fits i; yields = l.yields; walk = l.walk; turns = l.turns }))
+            (λ i. Some (record { name = l.name; from = l.from; to = l.to; travel = field-fits l.travel travel.fits i; sat = field-fits l.sat sat.fits i; weight = field-fits l.weight weight.fits i; yields = None; walk = None; turns = l.turns }))
       ];
       depth = members-depth l.name l.travel l.sat l.weight yields.items l.from l.to l.yields l.walk turns.items yields.depth turns.are.depth;
     })
