@@ -13,6 +13,8 @@ from .loop import SLOW, Sensors
 from .streets import Streets, edge_of
 from .to_sumo import element
 
+BEGINS = 8  # seconds from its start in which a vehicle that is slow yet stands in no queue
+
 
 def rows_named(folder: Path) -> dict[str, dict[str, str]]:
     """What each node, phase and link of an imported network is in SUMO, by kinds."""
@@ -98,6 +100,7 @@ class OwnSensors(Sensors):
         self._routes: dict[str, tuple[str, ...]] = {}
         self._ahead: dict[tuple[str, ...], list[tuple[int, str | None, str]]] = {}
         self.where: dict[str, tuple[str, int]] = {}
+        self._begun: dict[str, int] = {}
 
     def _stops(self, route: tuple[str, ...]) -> list[tuple[int, str | None, str]]:
         """The signals that a route passes: the place of the edge before each, the node passed before, and the node."""
@@ -128,10 +131,13 @@ class OwnSensors(Sensors):
         values = constants.VAR_LANE_ID, constants.VAR_SPEED, constants.VAR_LANEPOSITION, constants.VAR_ROUTE_INDEX
         for vehicle in self._traci.simulation.getDepartedIDList():
             self._traci.vehicle.subscribe(vehicle, values)
-            self._routes[vehicle] = tuple(self._traci.vehicle.getRoute(vehicle))
+            self._routes[vehicle], self._begun[vehicle] = tuple(self._traci.vehicle.getRoute(vehicle)), BEGINS
         for vehicle, found in self._traci.vehicle.getAllSubscriptionResults().items():
             lane, speed, place, index = (found[value] for value in values)
             route = self._routes[vehicle]
+            if self._begun[vehicle]:
+                self._begun[vehicle] = self._begun[vehicle] - 1 if speed < SLOW else 0
+                speed = max(speed, SLOW)
             if lane.startswith(":"):
                 index, place, speed = index + 1, 0, SPEED
             stop = next((stop for stop in self._stops(route) if stop[0] >= max(0, index)), None)
