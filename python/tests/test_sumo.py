@@ -8,7 +8,7 @@ import unittest
 from collections import Counter
 from pathlib import Path
 
-from kolvunh.sumo.layout import SUMO_HOME, Layout, read_places, read_tables, state_at
+from kolvunh.sumo.layout import SUMO_HOME, Layout, read_places, read_tables, state_at, vehicles
 from kolvunh.sumo.loop import Loop, Sensors, run_loop, seconds_to_end
 from kolvunh.sumo.measures import differences, outcome, run_words
 from kolvunh.sumo.to_sumo import convert, element, report_programs, write_routes
@@ -65,6 +65,19 @@ class LayoutTest(unittest.TestCase):
         layout = Layout(CORRIDOR)
         self.assertAlmostEqual(layout.angle("side_first", "first_second"), 90)
         self.assertAlmostEqual(layout.angle("side_first", "west_out"), -90)
+
+    def test_links_on_which_people_walk_are_left_out(self):
+        times = {"travel": 1, "sat": 2000, "walk": 5, "cross": 8}
+        walk = {"name": "zebra", "to": "first", **times, "turn": [{"exit": "pavement", "share": 1000}]}
+        exit = {"name": "pavement", "from": "first", "travel": 1, "sat": 5000}
+        pair = {"a": "zebra", "b": "west_in"}
+        network = CORRIDOR | {"link": [*CORRIDOR["link"], walk, exit], "conflict": [*CORRIDOR["conflict"], pair]}
+        layout = Layout(network)
+        self.assertEqual((layout.network, layout.walks), (CORRIDOR, {"zebra"}))
+        with tempfile.TemporaryDirectory() as folder:
+            path = Path(folder) / "arrivals.csv"
+            path.write_text("second,link,amount\n0,zebra,1000\n1,west_in,1000\n")
+            self.assertEqual([second for second, _ in vehicles(layout, path, 1)], [1])
 
     def test_colours(self):
         phases = [{"yellow": 3}, {"yellow": 3}]

@@ -5,8 +5,8 @@
 DIR is the folder that from_sumo.py wrote of NET. The network stays as it is, and its signals show what a controller answers, link by
 link. In ROUTES `%` stands for the seed; SUMO's drivers are drawn from it in any case. The controllers: `decide`, the program in the
 loop; `pressure`, max-pressure of the package; `program`, with which the network came; and SUMO's own `actuated` and `delay_based`,
-within the least and greatest greens of the network. The seconds in which SUMO showed something else than was answered are counted; the exit
-status is 1 where there are any. Nothing here is proved.
+within the least and greatest greens of the network. The seconds in which SUMO showed something else than was answered are counted; the
+exit status is 1 where there are any. Nothing here is proved.
 """
 
 import shlex

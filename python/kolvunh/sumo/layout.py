@@ -35,7 +35,8 @@ class Layout:
     """A network, where its nodes and the open ends of its links are, and its edges."""
 
     def __init__(self, network, places=None):
-        self.network = network = on_wheels(network)
+        self.walks = {link["name"] for link in network["link"] if "walk" in link}
+        self.network = network = on_wheels(network, self.walks)
         self.links = {link["name"]: link for link in network["link"]}
         self.nodes = {node["name"]: node for node in network["node"]}
         self.phase_of = {
@@ -112,9 +113,8 @@ class Layout:
         }
 
 
-def on_wheels(network):
+def on_wheels(network, walks):
     """A network without the links on which people walk, and the exits to which they alone lead: SUMO is given vehicles alone."""
-    walks = {link["name"] for link in network["link"] if "walk" in link}
     used = {turn["exit"] for link in network["link"] if link["name"] not in walks for turn in link.get("turn", [])}
     led = {turn["exit"] for link in network["link"] if link["name"] in walks for turn in link.get("turn", [])} - used
     links = [link for link in network["link"] if link["name"] not in walks | led]
@@ -276,6 +276,8 @@ def vehicles(layout, path, seed):
     """The vehicles of a file of arrivals, one for each 1000 of a link: second and links; turns are drawn by shares."""
     draw, carried, found = random.Random(seed), defaultdict(int), []
     for arrival in sorted(read_arrivals(path), key=lambda arrival: arrival.second):
+        if arrival.link in layout.walks:
+            continue
         if arrival.link not in layout.links:
             raise Fault(f"{path}: link {arrival.link!r} is none of the network")
         carried[arrival.link] += arrival.amount

@@ -187,10 +187,9 @@ def work() -> None:
     parser.add_argument("--at-once", action="store_true", help="vehicles stop and start at once")
     parser.add_argument("--report", type=Path)
     options = parser.parse_args()
-    network = read_tables(options.network)
-    signals = convert(network, read_places(options.places), options.folder)
-    if walks := [link["name"] for link in network["link"] if "walk" in link]:
-        print(f"people walk on {', '.join(walks)}: they are left out", file=sys.stderr)
+    signals = convert(read_tables(options.network), read_places(options.places), options.folder)
+    if signals.layout.walks:
+        print(f"people walk on {', '.join(sorted(signals.layout.walks))}: they are left out", file=sys.stderr)
     for node, one, other in signals.undeclared_crossings():
         print(f"{node}: {one} and {other} cross, and are in no conflict", file=sys.stderr)
     if options.arrivals:
