@@ -8,7 +8,7 @@ import random
 import re
 import xml.etree.ElementTree as ElementTree
 from collections import Counter, defaultdict
-from collections.abc import Iterator, Sequence
+from collections.abc import Sequence
 from typing import NamedTuple
 
 from ..faults import Fault
@@ -273,8 +273,3 @@ def vehicles_of(path: Place, row: ElementTree.Element, seconds: float) -> float:
         return seconds / max(0.1, number_of(path, row, "period"))
     hourly = next((name for name in ("vehsPerHour", "perHour", "personsPerHour") if name in row.attrib), None)
     return seconds * (number_of(path, row, hourly) / 3600 if hourly else number_of(path, row, "probability"))
-
-
-def by_second(vehicles: Sequence[Vehicle]) -> Iterator[Vehicle]:
-    """Vehicles in the order in which they start."""
-    return iter(sorted(vehicles, key=lambda vehicle: vehicle.second))

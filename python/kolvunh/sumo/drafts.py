@@ -14,6 +14,7 @@ from dataclasses import dataclass, field
 from pathlib import Path
 from typing import NamedTuple
 
+from ..records import rows_of, text_of
 from .demand import Vehicle
 from .groups import MOST_GROUPS, WALK, Group, Node
 from .streets import Edge, Point
@@ -27,6 +28,7 @@ MOST_TRAVEL, MOST_SAT, MOST_TURNS = 120, 5000, 16
 BESIDE = 10  # metres from the middle of an edge to the place of a link that begins or ends there
 NEAR = 30  # metres from a node to a point through which a link leaves it or comes to it
 MOST = {"nodes": 64, "links": 320, "conflicts": 1024}  # that the program takes in one file
+NAMES = ("kind", "name", "sumo")
 RUN = f"[run]\nstep = {STEP}\nlook = 30\ngap = 0\nsplit = true\nage = 20\nhold = 2\n"
 
 Key = tuple[str | None, str | None, int | str]  # the nodes before and at the end; the number of the group there, or the edge of an exit
@@ -330,13 +332,22 @@ def names_text(draft: Draft) -> str:
     nodes, links = draft.names()
     file = io.StringIO()
     rows = csv.writer(file, lineterminator="\n")
-    rows.writerow(["kind", "name", "sumo"])
+    rows.writerow(NAMES)
     for name in nodes:
         rows.writerow(["node", nodes[name], name])
         rows.writerows(["phase", f"{nodes[name]} {n}", draft.nodes[name].phases[k].state] for n, k in enumerate(draft.nodes[name].used))
     for link in draft.links.values():
         rows.writerow(["link", links[link.key], ";".join(link.group.lanes if link.group else [link.edge])])
     return file.getvalue()
+
+
+def names_in(folder: Path) -> dict[str, dict[str, str]]:
+    """What each node, phase and link of an imported network in a folder is in the network that it comes from, by kinds."""
+    found: dict[str, dict[str, str]] = defaultdict(dict)
+    for row in rows_of(folder / "names.csv", text_of(folder / "names.csv"), NAMES):
+        kind, name, sumo = row.fields
+        found[kind][name] = sumo
+    return found
 
 
 def places_text(draft: Draft) -> str:

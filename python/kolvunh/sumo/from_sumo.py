@@ -19,7 +19,6 @@ With --survey each signal has a line for each loss, and for why it is no node; n
 none. Nothing here is proved.
 """
 
-import csv
 import sys
 from argparse import Namespace
 from collections import Counter
@@ -29,7 +28,7 @@ from pathlib import Path
 from ..commands import Words, end
 from ..faults import Fault
 from .demand import Demand
-from .drafts import MOST_ROUNDS, STEP, Draft, write_draft
+from .drafts import MOST_ROUNDS, STEP, Draft, names_in, write_draft
 from .groups import Loss, Node
 from .layout import read_greens, read_tables, state_at
 from .streets import Streets
@@ -118,11 +117,9 @@ def report_programs(nodes: Mapping[str, Node], folder: Path, greens: Mapping[str
 
 def shown_states(folder: Path) -> dict[str, tuple[str, list[str]]]:
     """Of each node of a folder: its signal in SUMO, and what that shows in each of its phases."""
-    with open(folder / "names.csv", newline="", encoding="utf-8") as file:
-        rows = list(csv.DictReader(file))
-    states = {row["name"]: row["sumo"] for row in rows if row["kind"] == "phase"}
-    nodes = {row["name"]: row["sumo"] for row in rows if row["kind"] == "node"}
-    return {name: (sumo, [states[f"{name} {n}"] for n in range(4) if f"{name} {n}" in states]) for name, sumo in nodes.items()}
+    names = names_in(folder)
+    states = names["phase"]
+    return {name: (sumo, [states[f"{name} {n}"] for n in range(4) if f"{name} {n}" in states]) for name, sumo in names["node"].items()}
 
 
 def tell(lines: Iterator[str], counts: Mapping[str, int]) -> None:

@@ -9,7 +9,7 @@ from collections import defaultdict
 from collections.abc import Iterable, Iterator, Mapping, Sequence
 from typing import NamedTuple, Protocol
 
-from .streets import WALKS, Movement, edge_of
+from .streets import Movement, edge_of
 
 SHORT = 5  # seconds: a green that is shorter is part of a change
 MOST_PHASES, MOST_GROUPS, MOST_YELLOW = 4, 16, 10
@@ -262,8 +262,3 @@ class Node:
     def walks(self) -> Walks:
         """The crossings' places in the state, and the seconds in which they may be entered."""
         return {move.index: WALK for move in self.crossings}
-
-
-def is_walk(move: Movement) -> bool:
-    """Whether a movement is one of people on foot."""
-    return move.direction == WALKS

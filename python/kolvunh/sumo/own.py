@@ -1,12 +1,12 @@
 """SUMO's own network under an imported one: what its signals show, and its vehicles by the links. Nothing here is proved."""
 
-import csv
 import re
 from collections import Counter, defaultdict
 from pathlib import Path
 from typing import Any
 
 from ..faults import Fault
+from .drafts import names_in
 from .groups import SHORT
 from .layout import SPEED, read_tables, state_at
 from .loop import SLOW, Sensors
@@ -14,15 +14,6 @@ from .streets import Streets, edge_of
 from .to_sumo import element
 
 BEGINS = 8  # seconds from its start in which a vehicle that is slow yet stands in no queue
-
-
-def rows_named(folder: Path) -> dict[str, dict[str, str]]:
-    """What each node, phase and link of an imported network is in SUMO, by kinds."""
-    found: dict[str, dict[str, str]] = defaultdict(dict)
-    with open(folder / "names.csv", newline="", encoding="utf-8") as file:
-        for row in csv.DictReader(file):
-            found[row["kind"]][row["name"]] = row["sumo"]
-    return found
 
 
 class Tables:
@@ -40,7 +31,7 @@ class OwnSignals:
 
     def __init__(self, network: Path, folder: Path) -> None:
         self.path, self.streets, self.layout = network, Streets(network), Tables(read_tables(folder / "net.toml"))
-        names = rows_named(folder)
+        names = names_in(folder)
         self._tls, self.lanes = names["node"], {link: lanes.split(";") for link, lanes in names["link"].items()}
         counts = {node: len(table["phase"]) for node, table in self.layout.nodes.items()}
         self.states = {node: [names["phase"][f"{node} {n}"] for n in range(count)] for node, count in counts.items()}
