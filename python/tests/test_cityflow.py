@@ -3,16 +3,22 @@
 import contextlib
 import io
 import json
+import shutil
 import sys
 import unittest
 from pathlib import Path
 from unittest import mock
 
 from kolvunh.cityflow import Crossing, RoadNet, main, segments_cross
+from kolvunh.sumo.demand import Demand
 from kolvunh.sumo.drafts import Draft, write_draft
-from kolvunh.sumo.layout import read_tables
+from kolvunh.sumo.from_sumo import nodes_of
+from kolvunh.sumo.layout import Layout, read_places, read_tables
+from kolvunh.sumo.streets import Streets
+from kolvunh.sumo.to_sumo import convert, write_routes
 
 from .cityflow_grid import write_grid
+from .test_from_sumo import parts, parts_back
 from .worked import FilesTest
 
 HERE = Path(__file__).parent / "cityflow"
@@ -57,6 +63,23 @@ class CityFlowTest(FilesTest):
         draft = Draft(net.edges, net.places, net.nodes, net.vehicles(paths[1], 3000))
         self.assertEqual((len(draft.met()), len(draft.arrivals), dict(draft.told)), (9, 300, {}))
         self.assertEqual(len(net.told), 4)
+
+    @unittest.skipUnless(shutil.which("netconvert"), "SUMO is not installed")
+    def test_there_and_back(self) -> None:
+        """The network that SUMO has of an imported grid has the same links, homes, greens and conflicts."""
+        paths = write_grid(2, 2, self.folder, 800)
+        net = RoadNet(paths[0])
+        write_draft(Draft(net.edges, net.places, net.nodes, net.vehicles(paths[1], 3000)), self.folder)
+        network, places = read_tables(self.folder / "net.toml"), read_places(self.folder / "places.csv")
+        signals = convert(network, places, self.folder / "there")
+        write_routes(signals.layout, self.folder / "arrivals.csv", 1, self.folder / "there.rou.xml")
+        streets = Streets(self.folder / "there/net.net.xml")
+        demand = Demand(streets, 3000)
+        demand.read_routes(self.folder / "there.rou.xml")
+        write_draft(Draft(streets.edges, streets.places, nodes_of(streets)[0], demand.vehicles), self.folder / "back")
+        first, back = parts(network, lambda name: name), parts_back(Layout(network, places), self.folder / "back")
+        for part in ("ends", "homes", "greens", "conflicts"):
+            self.assertEqual(first[part], back[part], part)
 
     def command(self, *words: str | Path) -> tuple[int, str]:
         """The status and the standard error of the command."""

@@ -1,7 +1,6 @@
 """Tests of what becomes of SUMO's networks: signals as nodes, who drives there, and networks there and back."""
 
 import contextlib
-import csv
 import gzip
 import io
 import shutil
@@ -15,7 +14,7 @@ from typing import Any
 from unittest import mock
 
 from kolvunh.sumo.demand import Demand
-from kolvunh.sumo.drafts import Draft, write_draft
+from kolvunh.sumo.drafts import Draft, names_in, write_draft
 from kolvunh.sumo.from_sumo import main, nodes_of, survey, survey_line
 from kolvunh.sumo.groups import Node
 from kolvunh.sumo.layout import Layout, read_places, read_tables, state_at
@@ -193,7 +192,7 @@ class NetworkTest(unittest.TestCase):
         demand = Demand(streets, 3000)
         demand.read_routes(self.folder / "there.rou.xml")
         write_draft(self.draft(demand, streets), self.folder / "back")
-        self.assertEqual(parts(network, lambda name: name), self.parts_back(Layout(network, places)))
+        self.assertEqual(parts(network, lambda name: name), parts_back(Layout(network, places), self.folder / "back"))
 
     def command(self, *words: str | Path) -> tuple[object, list[str]]:
         """The status and the lines on standard error of the command."""
@@ -255,14 +254,15 @@ class NetworkTest(unittest.TestCase):
         status, lines = self.command(left, routes, self.folder / "left")
         self.assertEqual((status, len(lines), "traffic keeps left" in lines[0]), (0, 1, True))
 
-    def parts_back(self, layout: Layout) -> dict[str, Any]:
-        """The parts of the network that came back, by the names of the first one."""
-        lanes, names = layout.link_of_lane(), {}
-        with open(self.folder / "back/names.csv", newline="", encoding="utf-8") as file:
-            for row in csv.DictReader(file):
-                links = {lanes[lane] for lane in row["sumo"].split(";") if lane in lanes} or {row["sumo"]}
-                names[row["name"]] = row["sumo"] if row["kind"] == "node" else "+".join(sorted(links))
-        return parts(read_tables(self.folder / "back/net.toml"), lambda name: names[name])
+
+def parts_back(layout: Layout, folder: Path) -> dict[str, Any]:
+    """The parts of the network that came back into a folder, by the names of the first one."""
+    lanes, names = layout.link_of_lane(), {}
+    for kind, found in names_in(folder).items():
+        for name, sumo in found.items():
+            links = {lanes[lane] for lane in sumo.split(";") if lane in lanes} or {sumo}
+            names[name] = sumo if kind == "node" else "+".join(sorted(links))
+    return parts(read_tables(folder / "net.toml"), lambda name: names[name])
 
 
 def parts(network: dict[str, Any], named: Callable[[str], str]) -> dict[str, Any]:

@@ -11,10 +11,10 @@ from types import SimpleNamespace
 
 from kolvunh.faults import Fault
 from kolvunh.sumo.calibrate import Count, rewritten
-from kolvunh.sumo.drafts import Draft, write_draft
 from kolvunh.sumo.demand import Demand
+from kolvunh.sumo.drafts import Draft, write_draft
 from kolvunh.sumo.from_sumo import nodes_of
-from kolvunh.sumo.layout import SUMO_HOME, SPEED
+from kolvunh.sumo.layout import SPEED, SUMO_HOME
 from kolvunh.sumo.loop import Loop, run_control
 from kolvunh.sumo.measures import differences, outcome, run_words
 from kolvunh.sumo.own import OwnSensors, OwnSignals
