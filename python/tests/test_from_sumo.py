@@ -228,6 +228,7 @@ class NetworkTest(unittest.TestCase):
             (self.grid, self.file('<trip id="a" from="none" to="none" depart="0"/>', "h.rou.xml"), 'trip "a" names edge "none"'),
             (self.grid, self.file(f'<flow id="a" from="{start}" begin="0" number="few"/>', "i.rou.xml"), "<flow> has no number number"),
             (self.grid, self.file(f'<trip id="a" from="{start}" to="{start}" depart="0"/>', "j.rou.xml"), "no vehicle passes a signal"),
+            (self.grid, self.file('<vehicle id="a" depart="0"><route/></vehicle>', "k.rou.xml"), "a route has no edges"),
         ):
             status, lines = self.command(net, routes, out)
             self.assertEqual((status, len(lines)), (2, 1), lines)

@@ -131,6 +131,8 @@ class Demand:
     def _route(self, row: ElementTree.Element) -> tuple[str, ...]:
         edges = tuple(row.get("edges", "").split())
         self._require(self._path, f"the route {quote(row.get('id', ''))}" if "id" in row.attrib else "a route", edges)
+        if not edges:
+            raise Fault(f"{self._path}: a route has no edges")
         for start, exit in zip(edges, edges[1:]):
             if exit not in self.streets.onward[start]:
                 raise Fault(f"{self._path}: a route goes from edge {quote(start)} to {quote(exit)}, and nothing leads there")
