@@ -17,7 +17,7 @@ from .groups import WALKING
 from .streets import Streets, quickest, read_root
 
 MOST_EDGES = 1000  # of a vehicle whose turns are drawn
-DAY = 86_400
+HOUR, DAY = 3600, 86_400  # seconds
 
 
 class Vehicle(NamedTuple):
@@ -180,6 +180,8 @@ class Demand:
     def _add_flow(self, row: ElementTree.Element, begin: float, end: float) -> None:
         begin, end = seconds_of(row.get("begin", str(begin))) or 0, seconds_of(row.get("end", str(end))) or DAY
         ways, draws = self._ways_of(row)
+        if "number" in row.attrib and "end" not in row.attrib and (hourly := rate_of(self._path, row, HOUR)):
+            end = begin + HOUR * number_of(self._path, row, "number") / hourly
         self._spread(begin, end, round(vehicles_of(self._path, row, end - begin)), ways, draws)
 
     def _spread(self, begin: float, end: float, count: int, ways: Sequence[tuple[float, tuple[str, ...]]], draws: bool = False) -> None:
@@ -267,11 +269,19 @@ def number_of(path: Place, row: ElementTree.Element, *names: str) -> float:
 
 def vehicles_of(path: Place, row: ElementTree.Element, seconds: float) -> float:
     """How many vehicles a flow has in these seconds."""
-    if "period" in row.attrib and (rate := re.fullmatch(r"exp\(([0-9.]+)\)", row.get("period", ""))):
-        return seconds * float(rate[1])
     if "number" in row.attrib:
         return number_of(path, row, "number")
+    rate = rate_of(path, row, seconds)
+    return number_of(path, row, "number", "period", "vehsPerHour", "probability") if rate is None else rate
+
+
+def rate_of(path: Place, row: ElementTree.Element, seconds: float) -> float | None:
+    """How many vehicles a flow has in these seconds by its period, its rate or its probability in a second; None where it says none."""
+    if rate := re.fullmatch(r"exp\(([0-9.]+)\)", row.get("period", "")):
+        return seconds * float(rate[1])
     if "period" in row.attrib:
         return seconds / max(0.1, number_of(path, row, "period"))
     hourly = next((name for name in ("vehsPerHour", "perHour", "personsPerHour") if name in row.attrib), None)
-    return seconds * (number_of(path, row, hourly) / 3600 if hourly else number_of(path, row, "probability"))
+    if hourly:
+        return seconds * number_of(path, row, hourly) / HOUR
+    return seconds * number_of(path, row, "probability") if "probability" in row.attrib else None
