@@ -53,6 +53,16 @@ class NodeTest(unittest.TestCase):
         self.assertTrue(node.yields(left, opposite) and not node.yields(opposite, left))
         self.assertEqual([node.clear_after(phase) for phase in (0, 1, 2)], [3, 0, 0])
 
+    def test_who_is_trapped(self) -> None:
+        """Three seconds follow a green in which somebody gives way, but where he is green in the next one for sure."""
+        relations, lanes = Crossroads((1, 2)), moves("west_0", "west_1", "east_0", "south_0")
+        two = Node("a", lanes, [(30, "GgGr"), (3, "yyyr"), (30, "rrrG"), (3, "rrry")], relations)
+        self.assertEqual([two.clear_after(phase) for phase in (0, 1)], [3, 0])
+        early = Node("a", lanes, [(30, "GgGr"), (3, "ygyr"), (9, "rGrr"), (3, "ryrr"), (30, "rrrG"), (3, "rrry")], relations)
+        self.assertEqual((early.marked, early.clear_after(0)), ({1}, 3))
+        always = Node("a", lanes, [(30, "GgGr"), (3, "ygyr"), (30, "rGrG"), (3, "rgry")], relations)
+        self.assertEqual([always.clear_after(phase) for phase in (0, 1)], [0, 0])
+
     def test_a_lane_of_which_only_some_is_green(self) -> None:
         states = [(30, "Ggr"), (3, "yyr"), (30, "Grr"), (3, "yrr"), (30, "rrG"), (3, "rry")]
         lanes = [Movement(lane, f"out{place}_0", place, "j", place) for place, lane in enumerate(("west_0", "west_0", "south_0"))]

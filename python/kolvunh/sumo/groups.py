@@ -13,7 +13,7 @@ from .streets import Movement, edge_of
 
 SHORT = 5  # seconds: a green that is shorter is part of a change
 MOST_PHASES, MOST_GROUPS, MOST_YELLOW = 4, 16, 10
-CLEARING = 3  # seconds of all-red after a phase in which somebody gives way and whose follower may be left out
+CLEARING = 3  # seconds of all-red after a phase in which somebody gives way who may have no green in the next one
 WALK = 5  # seconds in which a crossing may be entered
 WALKING = 1.2  # metres a second
 
@@ -234,8 +234,18 @@ class Node:
 
     def clear_after(self, phase: int) -> int:
         """The seconds of all-red after a phase: who gives way may stand in the junction when it ends, and have no phase to follow."""
-        giving = any(phase in group.shown & group.giving for group in self.groups)
-        return max(self.phases[phase].clear, CLEARING if self.marked and giving else 0)
+        giving = [group for group in self.groups if phase in group.shown & group.giving]
+        follow = self._followers(phase)
+        return max(self.phases[phase].clear, 0 if all(follow <= group.shown for group in giving) else CLEARING)
+
+    def _followers(self, phase: int) -> set[int]:
+        """The phases that may come next after one: those up the ring, to the first that is always shown."""
+        place, found = self.used.index(phase), set[int]()
+        for following in (*self.used[place + 1 :], *self.used[:place]):
+            found.add(following)
+            if following not in self.marked:
+                break
+        return found
 
     def least_of(self, phase: int) -> int:
         """The least green of a phase, in seconds: people on foot have to be over in it."""
