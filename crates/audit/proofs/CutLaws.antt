@@ -1,23 +1,22 @@
 -- A clean sheet is clean with the greens alone that a report tells.
 use Rattle.std.specs.Prelude.{IfSome}
-use Rattle.std.proofs.Common.{◌≡◌, ℕ, ◌<◌, Bool, true, List, [], ◌∷◌, Option, Some, length, sym, ap, ◌∙◌, subst, inl, inr, arith, false, None, ◌&&◌, ◌+◌, ltb, refl}
+use Rattle.std.proofs.Common.{◌≡◌, ℕ, ◌<◌, Bool, true, List, [], ◌∷◌, Option, Some, length, sym, ap, ◌∙◌, subst, inl, inr, arith}
 use Rattle.std.proofs.lemmas.Bool.{cases_lt, false≢true}
 use Rattle.std.proofs.lemmas.List.FromFn.{get_or-map-range_with_len}
 use Rattle.phase_plan.specs.Phases.{IsPlan}
 use Rattle.phase_plan.specs.declared.Phase.{Phase}
 use Rattle.net_parts.specs.Numbers.{Net}
-use Rattle.net_parts.specs.Outline.{is_green_in, link_at, plan_at, walk_at}
+use Rattle.net_parts.specs.Outline.{link_at, plan_at}
 use Rattle.control_flow.specs.Greens.{Follows, IsLawful, row_at}
-use Rattle.control_flow.specs.Signs.{is_on, is_on_in, sign_at}
+use Rattle.control_flow.specs.Signs.{sign_at}
 use Rattle.control_flow.specs.declared.greens.Sign.{Sign}
-use Rattle.control_flow.specs.declared.greens.Sign.TheVariants as signs
 use Rattle.control_flow.specs.declared.greens.Green.{Green}
 use Rattle.control_flow.proofs.RowLaws.{lawful-cons, lawful-first, lawful-next, lawful-nil, lawful-tail}
 use Rattle.net_simulator.specs.Flow.{Cumulative}
 use Rattle.net_simulator.specs.Shown.{cumulative_of_lines}
 use Rattle.net_simulator.specs.Sums.{end_of_run, link_totals, totals}
 use Rattle.net_simulator.specs.Worlds.{line_in, signs_by}
-use Rattle.net_simulator.specs.LinkGreens.{loss_of}
+use Rattle.net_simulator.specs.LinkGreens.{is_lit, loss_of}
 use Rattle.net_simulator.proofs.AtNodes.{end-below, past-alike}
 use Rattle.net_simulator.proofs.LightLaws.{AreAlike}
 use Rattle.road_net.specs.Network.{IsNetwork}
@@ -48,20 +47,14 @@ told-lawful plan through end last (row ∷ rows) lawful = elim (cases_lt (told_b
       | inr after ↦ rw (row-late through end row.to next rest after) (λ some. absurd (omega (arith, some)))
     ]
 
--- signs under which a link is green alike
-in-off : (green : ℕ → Bool) (walk : Option ℕ) (x : ℕ) (s : Sign) → is_on green s ≡ false → is_on_in green walk x s ≡ false
-in-off green None x s off = off
-in-off green (Some w) x (signs.On k since) off = ap (λ (b : Bool). b && ltb x (since + w)) off
-in-off green (Some w) x (signs.Change k j) off = refl
-in-off green (Some w) x signs.Dark off = refl
+-- signs that light a link alike
+same-green : (lit : Sign → Bool) (s t : Sign) → told.AreAlike lit s t → lit s ≡ lit t
+same-green lit s t (inl same) = ap lit same
+same-green lit s t (inr off) = off.0 ∙ sym off.1
 
-same-green : (green : ℕ → Bool) (walk : Option ℕ) (x : ℕ) (s t : Sign) → told.AreAlike green s t → is_on_in green walk x s ≡ is_on_in green walk x t
-same-green green walk x s t (inl same) = ap (is_on_in green walk x) same
-same-green green walk x s t (inr off) = in-off green walk x s off.0 ∙ sym (in-off green walk x t off.1)
-
-same-loss : (green : ℕ → Bool) (walk : Option ℕ) (x : ℕ) (plan : List Phase) (s t : Sign) → told.AreAlike green s t → is_on_in green walk x s ≡ true → loss_of plan s ≡ loss_of plan t
-same-loss green walk x plan s t (inl same) is = ap (loss_of plan) same
-same-loss green walk x plan s t (inr off) is = absurd (false≢true (sym (in-off green walk x s off.0) ∙ is))
+same-loss : (lit : Sign → Bool) (plan : List Phase) (s t : Sign) → told.AreAlike lit s t → lit s ≡ true → loss_of plan s ≡ loss_of plan t
+same-loss lit plan s t (inl same) is = ap (loss_of plan) same
+same-loss lit plan s t (inr off) is = absurd (false≢true (sym off.0 ∙ is))
 
 -- a line of a sheet that is cut
 pub cut-line : (net : Net) (end : ℕ) (s : Sheet) (node : ℕ) → node < length net.node_names → line_in (cut_at net end s).lines node ≡ told_line net s.lines end node
@@ -79,15 +72,15 @@ module _ (net : Net) (network : IsNetwork net) (arriving : ℕ → ℕ → ℕ) 
     cut-alike : AreAlike net (end_of_run net) (signs_by (line_in (cut_at net (end_of_run net) s).lines)) (signs_by (line_in s.lines))
     cut-alike =
         record {
-          green = λ x l node early to. same-green (is_green_in net l) (walk_at net l) x (signs_by (line_in cut) x node) (signs_by (line_in s.lines) x node) (shows x l node early to);
-          loss = λ x l node early to is. same-loss (is_green_in net l) (walk_at net l) x (plan_at net node) (signs_by (line_in cut) x node) (signs_by (line_in s.lines) x node) (shows x l node early to) is;
+          green = λ x l node early to. same-green (is_lit net l x) (signs_by (line_in cut) x node) (signs_by (line_in s.lines) x node) (shows x l node early to);
+          loss = λ x l node early to is. same-loss (is_lit net l x) (plan_at net node) (signs_by (line_in cut) x node) (signs_by (line_in s.lines) x node) (shows x l node early to) is;
         }
       where
-        shows : (x l node : ℕ) → x < end_of_run net → (link_at net l).to ≡ Some node → told.AreAlike (is_green_in net l) (signs_by (line_in cut) x node) (signs_by (line_in s.lines) x node)
+        shows : (x l node : ℕ) → x < end_of_run net → (link_at net l).to ≡ Some node → told.AreAlike (is_lit net l x) (signs_by (line_in cut) x node) (signs_by (line_in s.lines) x node)
         shows x l node early to =
             let below : node < length net.node_names = subst (λ (o : Option ℕ). IfSome o (λ k. k < length net.node_names)) to (end-below net network l) in
             let plan : IsPlan (plan_at net node) = plan-is net network node below in
-            subst (λ (rows : List Green). told.AreAlike (is_green_in net l) (sign_at rows x) (sign_at (line_in s.lines node) x)) (sym (cut-line net end s node below))
+            subst (λ (rows : List Green). told.AreAlike (is_lit net l x) (sign_at rows x) (sign_at (line_in s.lines node) x)) (sym (cut-line net end s node below))
             (told-alike net l node to (plan_at net node) plan end x early (line_in s.lines node) (lawful node below))
 
     past-cut : cumulative_of_lines net arriving (cut_at net (end_of_run net) s).lines ≡ cumulative_of_lines net arriving s.lines
