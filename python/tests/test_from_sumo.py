@@ -54,10 +54,10 @@ class NodeTest(unittest.TestCase):
         self.assertEqual([node.clear_after(phase) for phase in (0, 1, 2)], [3, 0, 0])
 
     def test_who_is_trapped(self) -> None:
-        """Three seconds follow a green in which somebody gives way, but where he is green in the next one for sure."""
+        """Seconds of all-red follow a green in which somebody gives way: 2 where he has no green next, 3 where that may be left out."""
         relations, lanes = Crossroads((1, 2)), moves("west_0", "west_1", "east_0", "south_0")
         two = Node("a", lanes, [(30, "GgGr"), (3, "yyyr"), (30, "rrrG"), (3, "rrry")], relations)
-        self.assertEqual([two.clear_after(phase) for phase in (0, 1)], [3, 0])
+        self.assertEqual([two.clear_after(phase) for phase in (0, 1)], [2, 0])
         early = Node("a", lanes, [(30, "GgGr"), (3, "ygyr"), (9, "rGrr"), (3, "ryrr"), (30, "rrrG"), (3, "rrry")], relations)
         self.assertEqual((early.marked, early.clear_after(0)), ({1}, 3))
         always = Node("a", lanes, [(30, "GgGr"), (3, "ygyr"), (30, "rGrG"), (3, "rgry")], relations)

@@ -13,7 +13,7 @@ from .streets import Movement, edge_of
 
 SHORT = 5  # seconds: a green that is shorter is part of a change
 MOST_PHASES, MOST_GROUPS, MOST_YELLOW = 4, 16, 10
-CLEARING = 3  # seconds of all-red after a phase in which somebody gives way who may have no green in the next one
+CLEARING, LEAVING = 3, 2  # seconds of all-red after a phase in which somebody gives way: his next green may be left out; he has none
 WALK = 5  # seconds in which a crossing may be entered
 WALKING = 1.2  # metres a second
 
@@ -234,9 +234,10 @@ class Node:
 
     def clear_after(self, phase: int) -> int:
         """The seconds of all-red after a phase: who gives way may stand in the junction when it ends, and have no phase to follow."""
-        giving = [group for group in self.groups if phase in group.shown & group.giving]
         follow = self._followers(phase)
-        return max(self.phases[phase].clear, 0 if all(follow <= group.shown for group in giving) else CLEARING)
+        giving = [group for group in self.groups if phase in group.shown & group.giving and not follow <= group.shown]
+        own = any(follow & group.shown for group in giving)
+        return max(self.phases[phase].clear, CLEARING if own else LEAVING if giving else 0)
 
     def _followers(self, phase: int) -> set[int]:
         """The phases that may come next after one: those up the ring, to the first that is always shown."""
