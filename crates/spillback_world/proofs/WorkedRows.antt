@@ -20,7 +20,7 @@ net = record {
   phase_links = ((2 ∷ []) ∷ (0 ∷ []) ∷ []) ∷ ((1 ∷ []) ∷ (3 ∷ []) ∷ []) ∷ [];
   also_links = ([] ∷ [] ∷ []) ∷ ([] ∷ [] ∷ []) ∷ [];
   link_names = (0 ∷ []) ∷ (1 ∷ []) ∷ (2 ∷ []) ∷ (3 ∷ []) ∷ (4 ∷ []) ∷ [];
-  links = record { from = None; to = Some 0; travel = 10; sat = 500; weight = 1; phase = 1; yield_sat = 0; walk = None } ∷ record { from = Some 0; to = Some 1; travel = 10; sat = 500; weight = 1; phase = 0; yield_sat = 0; walk = None } ∷ record { from = Some 1; to = Some 0; travel = 10; sat = 500; weight = 1; phase = 0 }
+  links = record { from = None; to = Some 0; travel = 10; sat = 500; weight = 1; phase = 1; yield_sat = 0; walk = None } ∷ record { from = Some 0; to = Some 1; travel = 10; sat = 500; weight = 1; phase = 0; yield_sat = 0; walk = None } ∷ record { from = Some 1; to = Some 0; travel = 10; sat = 500; weight = 1; phase = 0; yield_sat = 0; walk = None }
       ∷ record { from = None; to = Some 1; travel = 10; sat = 500; weight = 1; phase = 1; yield_sat = 0; walk = None } ∷ record { from = Some 1; to = None; travel = 10; sat = 500; weight = 1; phase = 0; yield_sat = 0; walk = None } ∷ [];
   turns = (record { exit = 1; share = 1000 } ∷ []) ∷ (record { exit = 2; share = 500 } ∷ record { exit = 4; share = 500 } ∷ []) ∷ (record { exit = 1; share = 1000 } ∷ []) ∷ (record { exit = 4; share = 1000 } ∷ []) ∷ [] ∷ [];
   yields = [] ∷ [] ∷ [] ∷ [] ∷ [] ∷ [];
