@@ -1,5 +1,5 @@
 //! The text of how long queues can wait, also under a fixed plan.
-ghost use Rattle.std.specs.Prelude.{◌≡◌, ◌<◌, ℕ, [], ◌∷◌, IfOk, OnOk, Result, length};
+ghost use Rattle.std.specs.Prelude.{◌≡◌, ◌<◌, [], ◌∷◌, IfOk, OnOk, Result, length};
 ghost use Rattle.std.specs.List.{flat_map, range_with_len};
 ghost use Rattle.commands.specs.Bounds as bounds;
 ghost use Rattle.commands.specs.Bounds.{fixed_record, fixed_records};
