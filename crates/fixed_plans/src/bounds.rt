@@ -1,5 +1,5 @@
 //! Within how many seconds queues lose something under a fixed plan.
-ghost use Rattle.std.specs.Prelude.{◌≡◌, ◌+◌, ◌<◌, ◌≤◌, ◌==◌, nat_lt, if◌then◌else◌, find, option_copied, IfOk, Ok, Err, length, map};
+ghost use Rattle.std.specs.Prelude.{◌≡◌, ℕ, ◌+◌, ◌<◌, ◌≤◌, ◌==◌, nat_lt, if◌then◌else◌, find, option_copied, IfOk, Ok, Err, length, map};
 ghost use Rattle.std.specs.List.{range_with_len};
 ghost use Rattle.fixed_plans.specs.Cycles.{IsCycle};
 ghost use Rattle.fixed_plans.specs.FixedBounds as spec;
