@@ -57,7 +57,7 @@ returns-in_err-ended-clause-passes g c =
     (own-same c.args.boards.now c.args.passes.now out (subst (λ (l : List PassView). AreSamePasses l out) c.trade.ensures.passes.0 c.run-rounds.ensures.same.passes) c.requires.passes)
 
 -- the rounds are over, for the passes and the actors that are left
-over : (g : _) (c : goal.After-drop-world-inside-7 g) → Between c.args.net.now c.args.arrivals.now c.args.boards.now c.args.net.now.run.rounds c.trade-2.new.passes c.into_actors.result.items c.run-rounds.result.0.world c.run-rounds.result.0.plans
+over : (g : _) (c : goal.After-drop-world-inside-8 g) → Between c.args.net.now c.args.arrivals.now c.args.boards.now c.args.net.now.run.rounds c.trade-2.new.passes c.into_actors.result.items c.run-rounds.result.0.world c.run-rounds.result.0.plans
 over g c =
     let o = c.run-rounds.result.0 in
     let same = c.run-rounds.ensures.same in
