@@ -1,5 +1,5 @@
 -- The phases of an intersection: their bounds, the ring, and why phases are no plan.
-use Rattle.std.specs.Prelude.{◌≡◌, ℕ, ◌+◌, ◌-◌, ◌<◌, ◌≤◌, ◌⊎◌, Bool, true, false, not, List, [], ◌++◌, length, All, map, filter, count_by, sum_by, slice_index, slice_index_or, nat_lt, if◌then◌else◌}
+use Rattle.std.specs.Prelude.{◌≡◌, ℕ, ◌+◌, ◌-◌, ◌<◌, ◌≤◌, ◌⊎◌, ◌≢◌, Bool, true, false, not, List, [], ◌++◌, length, All, map, filter, count_by, sum_by, slice_index, slice_index_or, nat_lt, ◌==◌, ◌||◌, ◌&&◌, if◌then◌else◌}
 use Rattle.std.specs.List.{range_with_len}
 use Rattle.foundation.specs.Firsts.{IsFirstAt, IsFirstOfRanks}
 use Rattle.phase_plan.specs.declared.Phase.{Phase}
@@ -36,6 +36,16 @@ pub record IsPlan (plan : List Phase) : Type 0 where
   pub phases : All IsPhase plan
   pub ring : 2 ≤ count_by is_unmarked plan
 
+-- the phases of a ring: two to four, each in bounds, and not exactly one of them unmarked; where none is, the ring is free
+pub record IsRing (plan : List Phase) : Type 0 where
+  pub count : (2 ≤ length plan) × (length plan ≤ 4)
+  pub phases : All IsPhase plan
+  pub ring : count_by is_unmarked plan ≢ 1
+
+-- whether the ring of these phases is free: all are marked, and any may follow any other
+abbrev pub is_free : List Phase → Bool
+is_free plan = count_by is_unmarked plan == 0
+
 -- what stands where a plan has no phase
 abbrev pub no_phase : Phase
 no_phase = record { least = 0; greatest = 0; yellow = 0; clear = 0; loss = 0; wait = 0; skip = false }
@@ -61,23 +71,32 @@ between plan s j = if nat_lt s j then range_with_len (s + 1) (j - (s + 1)) else 
 abbrev pub stops_between : List Phase → (ℕ → Bool) → ℕ → ℕ → List ℕ
 stops_between plan stops s j = filter stops (between plan s j)
 
--- the first phase up the ring from s at which it stops by this test
-abbrev pub first_up : List Phase → (ℕ → Bool) → ℕ → ℕ
-first_up plan stops s = slice_index (stops_between plan stops s s) 0
+-- the phase after s up the ring, marked or not
+abbrev pub one_up : List Phase → ℕ → ℕ
+one_up plan s = if nat_lt (s + 1) (length plan) then s + 1 else 0
 
--- the first unmarked phase up the ring from s
+-- the first phase up the ring from s at which it stops by this test, or the one after s where it stops at no other
+abbrev pub first_up : List Phase → (ℕ → Bool) → ℕ → ℕ
+first_up plan stops s = slice_index_or (stops_between plan stops s s) 0 (one_up plan s)
+
+-- the first unmarked phase up the ring from s; in a free ring the one after s
 abbrev pub next_phase : List Phase → ℕ → ℕ
 next_phase plan s = first_up plan (is_unmarked_at plan) s
 
--- the numbers of the unmarked phases between s and j
+-- whether the ring, on its way from a green of phase s to one of phase j, is green for a phase between: it is unmarked, or the
+-- ring is free and s is j, since no phase follows itself
+abbrev pub is_passed : List Phase → ℕ → ℕ → ℕ → Bool
+is_passed plan s j k = is_unmarked_at plan k || (is_free plan && (s == j))
+
+-- the numbers of the phases that the ring passes between s and j
 abbrev pub passed_numbers : List Phase → ℕ → ℕ → List ℕ
-passed_numbers plan s j = stops_between plan (is_unmarked_at plan) s j
+passed_numbers plan s j = stops_between plan (is_passed plan s j) s j
 
 -- the phases with these numbers
 abbrev pub passed : List Phase → ℕ → ℕ → List Phase
 passed plan s j = map (λ k. phase_at plan k) (passed_numbers plan s j)
 
--- how long the ring stays at an unmarked phase that it passes
+-- how long the ring stays at a phase that it passes
 abbrev pub passing : Phase → ℕ
 passing p = p.least + p.yellow + p.clear
 
@@ -119,3 +138,9 @@ abbrev pub IsPlanFault : List Phase → PlanFault → Type 0
 IsPlanFault plan (Count n) = (n ≡ length plan) × ((length plan < 2) ⊎ (4 < length plan))
 IsPlanFault plan (Bound k field) = (2 ≤ length plan) × (length plan ≤ 4) × IsFirstAt IsPhase (λ p. IsFirstFault p field) plan k
 IsPlanFault plan Skips = (2 ≤ length plan) × (length plan ≤ 4) × All IsPhase plan × (count_by is_unmarked plan < 2)
+
+-- why these phases are no ring: as for a plan, but that none may be unmarked
+abbrev pub IsRingFault : List Phase → PlanFault → Type 0
+IsRingFault plan (Count n) = IsPlanFault plan (Count n)
+IsRingFault plan (Bound k field) = IsPlanFault plan (Bound k field)
+IsRingFault plan Skips = (2 ≤ length plan) × (length plan ≤ 4) × All IsPhase plan × (count_by is_unmarked plan ≡ 1)

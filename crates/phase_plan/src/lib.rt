@@ -1,10 +1,10 @@
 //! The signal phases of an intersection: their bounds, and the time that a change of phase takes.
 #![tactic(auto)]
 
-ghost use Rattle.std.specs.Prelude.{◌≡◌, ◌+◌, ◌-◌, ◌*◌, ◌<◌, ◌≤◌, length, map, filter, count_by, sum_by, slice_get, if◌then◌else◌, IfNone, IfSome};
+ghost use Rattle.std.specs.Prelude.{◌≡◌, ◌≢◌, ◌+◌, ◌-◌, ◌*◌, ◌^◌, ◌<◌, ◌≤◌, ◌||◌, length, map, filter, count_by, sum_by, slice_get, if◌then◌else◌, All, IfErr, IfNone, IfSome, OnOk};
 ghost use Rattle.std.specs.List.{range_with_len};
 ghost use Rattle.phase_plan.specs.Phases as spec;
-ghost use Rattle.phase_plan.specs.Phases.{IsPhase, IsPlan, IsFirstFault, AreSwitchTimes, AreSwitchTimesFrom, greatest_switch_time, is_unmarked, is_unmarked_at, passing, phase_at};
+ghost use Rattle.phase_plan.specs.Phases.{IsPhase, IsPlanFault, IsRing, IsFirstFault, AreSwitchTimes, AreSwitchTimesFrom, greatest_switch_time, is_free, is_unmarked, is_unmarked_at, passing, phase_at};
 
 use foundation::threads::CrossesThreads;
 use std::alloc::{AllocError, Global};
@@ -68,12 +68,12 @@ pub enum PlanFault {
     Count(u32),
     /// The first phase, from 0, and its first field that is out of bounds.
     Bound { phase: u8, field: Field },
-    /// Fewer than two phases are unmarked.
+    /// Fewer than two phases are unmarked; where a ring may be free, exactly one.
     Skips,
 }
 
-/// Phases that an intersection serves in a fixed ring, 2 to 4 of them, each within its bounds, at
-/// least two of them unmarked.
+/// Phases that an intersection serves in a ring, 2 to 4 of them, each within its bounds, not exactly
+/// one of them unmarked. Where none is, the ring is free: any phase may follow any other.
 /// Contracts see it as the list of its phases. The switch times are kept beside them.
 ///
 /// docs/RULES.md, "Phases".
@@ -90,11 +90,11 @@ impl Model for PhasePlan {
 
     ghost Value = { List Phase };
 
-    ghost use Rattle.phase_plan.specs.Phases.{IsPlan, AreSwitchTimes};
+    ghost use Rattle.phase_plan.specs.Phases.{IsRing, AreSwitchTimes};
 
     ghost view = { λ plan. plan.phases.items };
 
-    ghost invariant = { λ plan. IsPlan plan.phases.items × AreSwitchTimes plan.phases.items plan.switch_times };
+    ghost invariant = { λ plan. IsRing plan.phases.items × AreSwitchTimes plan.phases.items plan.switch_times };
 }
 
 impl CrossesThreads for Phase {}
@@ -106,8 +106,8 @@ impl CrossesThreads for PlanFault {}
 impl CrossesThreads for PhasePlan {}
 
 impl PhasePlan {
-    ghost use Rattle.std.specs.Prelude.{◌≡◌, ◌<◌, ◌≤◌, ◌^◌, All, IfOk, IfErr, OnErr, length, vec_len};
-    ghost use Rattle.phase_plan.specs.Phases.{IsPlan, IsPlanFault, IsPhase, IsMarkedAt, between, greatest_switch_time, next_phase, phase_at, switch_time};
+    ghost use Rattle.std.specs.Prelude.{◌≡◌, ◌<◌, ◌≤◌, ◌^◌, ◌↔◌, All, IfOk, IfErr, OnErr, IsTrue, length, vec_len};
+    ghost use Rattle.phase_plan.specs.Phases.{IsPlan, IsPlanFault, IsRing, IsRingFault, IsPhase, IsMarkedAt, between, greatest_switch_time, is_free, next_phase, phase_at, switch_time};
 
     /// The plan of these phases, fewer than 2^32, where there are 2 to 4 of them, each is within its
     /// bounds, and at least two are unmarked.
@@ -122,18 +122,30 @@ impl PhasePlan {
         ensures refused { OnErr result (¬ IsPlan phases.items) }
         ensures first { IfErr result (IsPlanFault phases.items) }
     {
-        if phases.len() < 2 || phases.len() > 4 {
-            return Err(PlanFault::Count(phases.len() as u32));
-        }
-        for (k, phase) in phases.iter().enumerate() {
-            if let Some(field) = out_of_bounds(phase) {
-                return Err(PlanFault::Bound {
-                    phase: k as u8,
-                    field,
-                });
-            }
-        }
+        check_phases(&phases)?;
         if count_unmarked(&phases) < 2 {
+            return Err(PlanFault::Skips);
+        }
+        Ok(PhasePlan {
+            switch_times: switch_times(&phases),
+            phases,
+        })
+    }
+
+    /// The plan of these phases, as `new` makes it, or with a free ring where all of them are marked.
+    ///
+    /// The faults are those of `new`, but that a plan is refused for its marks where exactly one phase
+    /// is unmarked.
+    ///
+    /// docs/RULES.md, "Phases".
+    pub fn new_or_free(phases: Vec<Phase>) -> Result<PhasePlan, PlanFault>
+        requires { vec_len phases < 2 ^ 32 }
+        ensures ok { IfOk result (λ plan. (plan ≡ phases.items) × IsRing phases.items) }
+        ensures refused { OnErr result (¬ IsRing phases.items) }
+        ensures first { IfErr result (IsRingFault phases.items) }
+    {
+        check_phases(&phases)?;
+        if count_unmarked(&phases) == 1 {
             return Err(PlanFault::Skips);
         }
         Ok(PhasePlan {
@@ -168,9 +180,18 @@ impl PhasePlan {
     /// docs/RULES.md, "Phases".
     pub fn count(&self) -> u8
         ensures count { result ≡ length self.now }
-        ensures plan { IsPlan self.now }
+        ensures ring { IsRing self.now }
     {
         self.phases.len() as u8
+    }
+
+    /// Whether the ring is free: all phases are marked, and any may follow any other.
+    ///
+    /// docs/RULES.md, "Phases".
+    pub fn is_free(&self) -> bool
+        ensures { result ≡ is_free self.now }
+    {
+        is_free(&self.phases)
     }
 
     /// The phase with this number, which is below their count.
@@ -186,7 +207,8 @@ impl PhasePlan {
 
     /// The seconds from the end of a green of phase `s` to the begin of a green of phase `j`, at the
     /// least: the yellow and clear time of `s`, and a least green with its yellow and clear time
-    /// for each unmarked phase between. Both numbers are below the count of phases. At most 440.
+    /// for each unmarked phase between, or, in a free ring from `s` to `s`, for each other phase.
+    /// Both numbers are below the count of phases. At most 440.
     ///
     /// docs/RULES.md, "Ring and switch time".
     pub fn switch_time(&self, s: u8, j: u8) -> u32
@@ -198,7 +220,8 @@ impl PhasePlan {
         self.switch_times[s as usize][j as usize]
     }
 
-    /// The first unmarked phase up the ring from phase `s`, which is below the count of phases.
+    /// The first unmarked phase up the ring from phase `s`, which is below the count of phases; in a
+    /// free ring the one after `s`.
     ///
     /// docs/RULES.md, "Ring and switch time".
     pub fn next(&self, s: u8) -> u8
@@ -209,6 +232,34 @@ impl PhasePlan {
     {
         next_phase(&self.phases, s as usize) as u8
     }
+}
+
+/// The number of phases, or else the first phase that is out of bounds and the first of its fields that is.
+fn check_phases(phases: &[Phase]) -> Result<(), PlanFault>
+    requires { length phases.now < 2 ^ 32 }
+    ensures ok { OnOk result ((2 ≤ length phases.now) × (length phases.now ≤ 4) × All IsPhase phases.now) }
+    ensures first { IfErr result (IsPlanFault phases.now) }
+    ensures only { IfErr result (λ fault. fault ≢ PlanFault.Skips) }
+{
+    if phases.len() < 2 || phases.len() > 4 {
+        return Err(PlanFault::Count(phases.len() as u32));
+    }
+    for (k, phase) in phases.iter().enumerate() {
+        if let Some(field) = out_of_bounds(phase) {
+            return Err(PlanFault::Bound {
+                phase: k as u8,
+                field,
+            });
+        }
+    }
+    Ok(())
+}
+
+/// Whether all phases are marked.
+fn is_free(phases: &[Phase]) -> bool
+    ensures { result ≡ spec.is_free phases.now }
+{
+    count_unmarked(phases) == 0
 }
 
 /// How many phases are unmarked.
@@ -242,7 +293,7 @@ fn out_of_bounds(phase: &Phase) -> Option<Field>
 
 /// The switch times from each phase to each.
 fn switch_times(phases: &[Phase]) -> [[u32; 4]; 4]
-    requires { IsPlan phases.now }
+    requires { IsRing phases.now }
     ensures { AreSwitchTimes phases.now result }
 {
     let mut rows = [[0; 4]; 4];
@@ -254,7 +305,7 @@ fn switch_times(phases: &[Phase]) -> [[u32; 4]; 4]
 
 /// The switch times from phase `s` to each.
 fn switch_times_from(phases: &[Phase], s: usize) -> [u32; 4]
-    requires plan { IsPlan phases.now }
+    requires ring { IsRing phases.now }
     requires from { s < length phases.now }
     ensures { AreSwitchTimesFrom phases.now s result }
 {
@@ -267,58 +318,67 @@ fn switch_times_from(phases: &[Phase], s: usize) -> [u32; 4]
 
 /// The seconds from the end of a green of phase `s` to the begin of a green of phase `j`.
 fn switch_time(phases: &[Phase], s: usize, j: usize) -> u32
-    requires plan { IsPlan phases.now }
+    requires ring { IsRing phases.now }
     requires from { s < length phases.now }
     requires to { j < length phases.now }
     ensures value { result ≡ spec.switch_time phases.now s j }
     ensures bounds { result ≤ greatest_switch_time }
 {
     let leaving = &phases[s];
+    let all = s == j && is_free(phases);
     let passed = if s < j {
-        passing_time(phases, s + 1, j)
+        passing_time(phases, s + 1, j, all)
     } else {
-        passing_time(phases, s + 1, phases.len()) + passing_time(phases, 0, j)
+        passing_time(phases, s + 1, phases.len(), all) + passing_time(phases, 0, j, all)
     };
     leaving.yellow + leaving.clear + passed
 }
 
-/// The seconds that the ring takes to pass the phases from `low` up to `high`.
-fn passing_time(phases: &[Phase], low: usize, high: usize) -> u32
-    requires plan { IsPlan phases.now }
+/// The seconds that the ring takes to pass the phases from `low` up to `high`: the unmarked ones, or all.
+fn passing_time(phases: &[Phase], low: usize, high: usize, all: bool) -> u32
+    requires ring { IsRing phases.now }
     requires low { low ≤ high }
     requires high { high ≤ length phases.now }
-    ensures value { result ≡ sum_by passing (map (λ k. phase_at phases.now k) (filter (is_unmarked_at phases.now) (range_with_len low (high - low)))) }
+    ensures value { result ≡ sum_by passing (map (λ k. phase_at phases.now k) (filter (λ k. is_unmarked_at phases.now k || all) (range_with_len low (high - low)))) }
     ensures bounds { result ≤ 140 * (high - low) }
 {
     let mut total = 0;
     for k in low..high {
-        total += passing(&phases[k]);
+        total += passing(&phases[k], all);
     }
     total
 }
 
-/// The seconds that the ring takes to pass the phase: none where it is marked.
-fn passing(phase: &Phase) -> u32
+/// The seconds that the ring takes to pass the phase: none where it is marked, unless it passes all.
+fn passing(phase: &Phase, all: bool) -> u32
     requires { IsPhase phase.now }
-    ensures value { result ≡ (if is_unmarked phase.now then spec.passing phase.now else 0) }
+    ensures value { result ≡ (if is_unmarked phase.now || all then spec.passing phase.now else 0) }
     ensures bounds { result ≤ 140 }
 {
-    if phase.skip {
+    if phase.skip && !all {
         0
     } else {
         phase.least + phase.yellow + phase.clear
     }
 }
 
-/// The first unmarked phase up the ring from phase `s`.
+/// The first unmarked phase up the ring from phase `s`, or the one after `s` where no other is unmarked.
 fn next_phase(phases: &[Phase], s: usize) -> usize
     requires { s < length phases.now }
     ensures { result ≡ spec.next_phase phases.now s }
 {
     match first_unmarked(phases, s + 1, phases.len()) {
         Some(k) => k,
-        None => first_unmarked(phases, 0, s).unwrap_or(0),
+        None => first_unmarked(phases, 0, s).unwrap_or(one_up(phases, s)),
     }
+}
+
+/// The phase after `s` up the ring.
+fn one_up(phases: &[Phase], s: usize) -> usize
+    requires { s < length phases.now }
+    ensures { result ≡ spec.one_up phases.now s }
+{
+    if s + 1 < phases.len() { s + 1 } else { 0 }
 }
 
 /// The first unmarked phase from `low` up to `high`.
