@@ -1,5 +1,5 @@
 -- The phases of an intersection: their bounds, the ring, and why phases are no plan.
-use Rattle.std.specs.Prelude.{◌≡◌, ℕ, ◌+◌, ◌-◌, ◌<◌, ◌≤◌, ◌⊎◌, ◌≢◌, Bool, true, false, not, List, [], ◌++◌, length, All, map, filter, count_by, sum_by, slice_index, slice_index_or, nat_lt, ◌==◌, ◌||◌, ◌&&◌, if◌then◌else◌}
+use Rattle.std.specs.Prelude.{◌≡◌, ℕ, ◌+◌, ◌-◌, ◌<◌, ◌≤◌, ◌⊎◌, ◌≢◌, Bool, true, false, not, List, [], ◌++◌, length, All, map, filter, count_by, sum_by, slice_index_or, nat_lt, ◌==◌, ◌||◌, ◌&&◌, if◌then◌else◌}
 use Rattle.std.specs.List.{range_with_len}
 use Rattle.foundation.specs.Firsts.{IsFirstAt, IsFirstOfRanks}
 use Rattle.phase_plan.specs.declared.Phase.{Phase}
@@ -29,6 +29,11 @@ pub record IsPhase (p : Phase) : Type 0 where
 -- whether a phase has no mark `skip`
 abbrev pub is_unmarked : Phase → Bool
 is_unmarked p = not p.skip
+
+-- two to four phases, each in bounds
+pub record HasPhases (plan : List Phase) : Type 0 where
+  pub count : (2 ≤ length plan) × (length plan ≤ 4)
+  pub phases : All IsPhase plan
 
 -- two to four phases, each in bounds, at least two of them unmarked
 pub record IsPlan (plan : List Phase) : Type 0 where
@@ -83,10 +88,15 @@ first_up plan stops s = slice_index_or (stops_between plan stops s s) 0 (one_up 
 abbrev pub next_phase : List Phase → ℕ → ℕ
 next_phase plan s = first_up plan (is_unmarked_at plan) s
 
--- whether the ring, on its way from a green of phase s to one of phase j, is green for a phase between: it is unmarked, or the
--- ring is free and s is j, since no phase follows itself
+-- whether the ring, on its way from a green of phase s to one of phase j, is green for all others: it is free, and s is j, since no
+-- phase follows itself
+abbrev pub passes_all : List Phase → ℕ → ℕ → Bool
+passes_all plan s j = is_free plan && (s == j)
+
+-- whether the ring, on its way from a green of phase s to one of phase j, is green for a phase between: it is unmarked, or the ring
+-- passes all others
 abbrev pub is_passed : List Phase → ℕ → ℕ → ℕ → Bool
-is_passed plan s j k = is_unmarked_at plan k || (is_free plan && (s == j))
+is_passed plan s j k = is_unmarked_at plan k || passes_all plan s j
 
 -- the numbers of the phases that the ring passes between s and j
 abbrev pub passed_numbers : List Phase → ℕ → ℕ → List ℕ

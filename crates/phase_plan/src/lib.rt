@@ -1,10 +1,10 @@
 //! The signal phases of an intersection: their bounds, and the time that a change of phase takes.
 #![tactic(auto)]
 
-ghost use Rattle.std.specs.Prelude.{◌≡◌, ◌≢◌, ◌+◌, ◌-◌, ◌*◌, ◌^◌, ◌<◌, ◌≤◌, ◌||◌, length, map, filter, count_by, sum_by, slice_get, if◌then◌else◌, All, IfErr, IfNone, IfSome, OnOk};
+ghost use Rattle.std.specs.Prelude.{◌≡◌, ◌≢◌, ◌+◌, ◌-◌, ◌*◌, ◌^◌, ◌<◌, ◌≤◌, ◌||◌, length, map, filter, count_by, sum_by, slice_get, if◌then◌else◌, IfErr, IfNone, IfSome, OnErr, OnOk};
 ghost use Rattle.std.specs.List.{range_with_len};
 ghost use Rattle.phase_plan.specs.Phases as spec;
-ghost use Rattle.phase_plan.specs.Phases.{IsPhase, IsPlanFault, IsRing, IsFirstFault, AreSwitchTimes, AreSwitchTimesFrom, greatest_switch_time, is_free, is_unmarked, is_unmarked_at, passing, phase_at};
+ghost use Rattle.phase_plan.specs.Phases.{IsPhase, HasPhases, IsPlanFault, IsRing, IsFirstFault, AreSwitchTimes, AreSwitchTimesFrom, greatest_switch_time, is_free, is_unmarked, is_unmarked_at, passing, phase_at};
 
 use foundation::threads::CrossesThreads;
 use std::alloc::{AllocError, Global};
@@ -237,7 +237,8 @@ impl PhasePlan {
 /// The number of phases, or else the first phase that is out of bounds and the first of its fields that is.
 fn check_phases(phases: &[Phase]) -> Result<(), PlanFault>
     requires { length phases.now < 2 ^ 32 }
-    ensures ok { OnOk result ((2 ≤ length phases.now) × (length phases.now ≤ 4) × All IsPhase phases.now) }
+    ensures ok { OnOk result (HasPhases phases.now) }
+    ensures refused { OnErr result (¬ HasPhases phases.now) }
     ensures first { IfErr result (IsPlanFault phases.now) }
     ensures only { IfErr result (λ fault. fault ≢ PlanFault.Skips) }
 {
@@ -255,7 +256,7 @@ fn check_phases(phases: &[Phase]) -> Result<(), PlanFault>
     Ok(())
 }
 
-/// Whether all phases are marked.
+/// Whether no phase is unmarked.
 fn is_free(phases: &[Phase]) -> bool
     ensures { result ≡ spec.is_free phases.now }
 {
@@ -325,13 +326,20 @@ fn switch_time(phases: &[Phase], s: usize, j: usize) -> u32
     ensures bounds { result ≤ greatest_switch_time }
 {
     let leaving = &phases[s];
-    let all = s == j && is_free(phases);
+    let all = passes_all(phases, s, j);
     let passed = if s < j {
         passing_time(phases, s + 1, j, all)
     } else {
         passing_time(phases, s + 1, phases.len(), all) + passing_time(phases, 0, j, all)
     };
     leaving.yellow + leaving.clear + passed
+}
+
+/// Whether the ring passes all others on its way from phase `s` to phase `j`.
+fn passes_all(phases: &[Phase], s: usize, j: usize) -> bool
+    ensures { result ≡ spec.passes_all phases.now s j }
+{
+    is_free(phases) && s == j
 }
 
 /// The seconds that the ring takes to pass the phases from `low` up to `high`: the unmarked ones, or all.
