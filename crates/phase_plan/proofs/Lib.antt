@@ -1,2 +1,3 @@
 -- What the crate's proofs share, and the crates above.
 pub mod RingLaws
+mod WorkedRows
