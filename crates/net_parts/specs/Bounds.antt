@@ -1,5 +1,5 @@
 -- The bounds of what is in a draft.
-use Rattle.std.specs.Prelude.{◌≡◌, ℕ, ◌%◌, ◌≤◌, ◌⊎◌, IfSome, List, length, count_by, All}
+use Rattle.std.specs.Prelude.{◌≡◌, ℕ, ◌%◌, ◌≤◌, ◌⊎◌, Bool, IsTrue, IfSome, List, length, count_by, All}
 use Rattle.net_parts.specs.Limits.{most_links, most_look, most_sat, most_travel}
 use Rattle.phase_plan.specs.Phases.{IsPhase, is_unmarked}
 use Rattle.net_parts.specs.declared.drafts.Run.{Run}
@@ -44,11 +44,15 @@ pub record IsBoundedPhase (p : DraftPhase) : Type 0 where
   pub links : length p.links ≤ 16
   pub also : length p.also ≤ 16
 
+-- how many phases of a ring may be unmarked: two or more, and none where the ring may be free
+abbrev pub IsUnmarkedCount : Bool → ℕ → Type 0
+IsUnmarkedCount free_ring count = (2 ≤ count) ⊎ (IsTrue free_ring × (count ≡ 0))
+
 -- the bounds of a node itself, the times of its phases apart
 pub record HasNodeBounds (n : DraftNode) : Type 0 where
   pub name : IsName n.name
   pub count : (2 ≤ length n.phases) × (length n.phases ≤ 4)
-  pub ring : 2 ≤ count_by (λ p. is_unmarked p.phase) n.phases
+  pub ring : IsUnmarkedCount n.free_ring (count_by (λ p. is_unmarked p.phase) n.phases)
 
 -- a node with its phases
 pub record IsBoundedNode (n : DraftNode) : Type 0 where

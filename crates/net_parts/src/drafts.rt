@@ -65,6 +65,8 @@ pub struct DraftNode {
     pub name: Text,
     /// Its phases, 2 to 4 of them, in the order of the ring.
     pub phases: Items<DraftPhase>,
+    /// Whether its ring may be free, all of its phases marked: a network file says so by its version 3.
+    pub free_ring: bool,
 }
 
 /// A phase of a node, and the links that it serves.
