@@ -1,7 +1,7 @@
 -- The rows of a lawful timeline stand apart.
 use Rattle.std.proofs.Common.{◌≡◌, ℕ, zero, suc, ◌+◌, ◌-◌, ◌<◌, ◌≤◌, List, length, subst, arith}
 use Rattle.std.proofs.lemmas.List.Elements.{All-get_or}
-use Rattle.phase_plan.specs.Phases.{IsPlan, phase_at}
+use Rattle.phase_plan.specs.Phases.{IsRing, phase_at}
 use Rattle.phase_plan.specs.declared.Phase.{Phase}
 use Rattle.control_flow.specs.declared.greens.Green.{Green}
 use Rattle.control_flow.specs.Greens.{no_green, row_at, AreApart, IsGreen, IsLawful}
@@ -20,7 +20,7 @@ rows-apart plan rows i (suc d) lawful h =
     let e : i + 1 + suc d ≡ i + 1 + d + 1 = omega arith in
     rw e (omega (arith, before, green.least, next))
 
-pub are-apart : (plan : List Phase) (rows : List Green) → IsPlan plan → IsLawful plan rows → AreApart plan rows
+pub are-apart : (plan : List Phase) (rows : List Green) → IsRing plan → IsLawful plan rows → AreApart plan rows
 are-apart plan rows p lawful = record {
   apart = λ i j h inside.
       let e : i + 1 + (j - i - 1) ≡ j = omega arith in

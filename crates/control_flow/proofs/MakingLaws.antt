@@ -1,10 +1,10 @@
 -- The timelines of servings and of no plan are lawful, begin with the green of the head, and end late enough.
-use Rattle.std.proofs.Common.{◌≡◌, ℕ, ◌+◌, ◌-◌, ◌<◌, ◌≤◌, Bool, true, false, cond, List, [], ◌∷◌, ◌++◌, length, All, get_or, drop, refl, sym, ap, subst, ◌∙◌, inl, inr, arith, append_assoc, length-append}
+use Rattle.std.proofs.Common.{◌≡◌, ◌≢◌, ℕ, ◌+◌, ◌-◌, ◌<◌, ◌≤◌, Bool, true, false, cond, List, [], ◌∷◌, ◌++◌, length, All, get_or, drop, refl, sym, ap, subst, ◌∙◌, inl, inr, arith, append_assoc, length-append, filter}
 use Rattle.std.specs.List.{range_with_len}
 use Rattle.std.proofs.lemmas.List.{drop_more, drop_all, get_or-append-add}
 use Rattle.std.proofs.lemmas.Bool.{cases_lt, cond_both}
 use Rattle.std.proofs.lemmas.List.Elements.{All-nil, All-cons, All-head, All-tail, All-append}
-use Rattle.phase_plan.specs.Phases.{IsMarkedAt, IsPlan, between, is_unmarked_at, passed_numbers, phase_at, passing, switch_time}
+use Rattle.phase_plan.specs.Phases.{IsMarkedAt, IsRing, between, is_unmarked_at, passed_numbers, phase_at, passing, switch_time}
 use Rattle.phase_plan.specs.declared.Phase.{Phase}
 use Rattle.switch_rules.specs.Serving.{IsHead, earliest_end, earliest_green, head_after}
 use Rattle.switch_rules.specs.declared.Head.{Head}
@@ -13,20 +13,20 @@ use Rattle.control_flow.specs.declared.greens.Green.{Green}
 use Rattle.control_flow.specs.Greens.{no_green, row_at, IsGreen, IsLawful, BeginBy}
 use Rattle.control_flow.specs.Timelines.{IsServingOf, AreServings, IsGreenOf, HasGreens, shortest_greens, begin_after, last_end, left_for, turned, line_of, rotation_of}
 use Rattle.control_flow.proofs.RowLaws.{lawful-cons, end_of-last}
-use Rattle.phase_plan.proofs.RingLaws.{IsWalk, passes-marked, phase-bounds, unmarked, unmarked-first, walk-passed}
-use Rattle.control_flow.proofs.RingLaws.{begin_after-later, begin_after-passed}
+use Rattle.phase_plan.proofs.RingLaws.{IsWalk, passes-marked, phase-bounds, stops-first, walk-passed}
+use Rattle.control_flow.proofs.RingLaws.{AreOthers, begin_after-later, begin_after-passed, passed-others}
 use Rattle.control_flow.proofs.TurningLaws.{IsLineFrom, turned-by, turned-line}
 use Rattle.control_flow.proofs.ServingLaws.{IsAnyServing, IsServingOf-keeps, IsServingOf-head}
 
 -- the timeline of no plan
 
-pub rotation_of-line : (plan : List Phase) (head : Head) (until : ℕ) → IsPlan plan → IsHead plan head → head.at ≤ 104000 → IsLineFrom plan head until (rotation_of plan head until)
+pub rotation_of-line : (plan : List Phase) (head : Head) (until : ℕ) → IsRing plan → IsHead plan head → head.at ≤ 104000 → IsLineFrom plan head until (rotation_of plan head until)
 rotation_of-line plan head until p h reach =
     let times = phase-bounds plan head.phase p h.phase in
     turned-line plan (is_unmarked_at plan) p (passes-marked plan) head (earliest_end plan head) until h reach (omega arith) (omega (arith, h.within, times.greatest)) (omega arith)
 
 -- where its rows begin
-pub rotation_of-by : (plan : List Phase) (head : Head) (until n : ℕ) → IsPlan plan → IsHead plan head → head.since ≤ n → until + 20 ≤ n → BeginBy n (rotation_of plan head until)
+pub rotation_of-by : (plan : List Phase) (head : Head) (until n : ℕ) → IsRing plan → IsHead plan head → head.since ≤ n → until + 20 ≤ n → BeginBy n (rotation_of plan head until)
 rotation_of-by plan head until n p h since last = turned-by plan (is_unmarked_at plan) p (passes-marked plan) head (earliest_end plan head) until n h.phase since last
 
 -- the greens that the ring passes, up to a second at which the wanted green can begin
@@ -44,20 +44,20 @@ pub record IsRest (plan : List Phase) (j b : ℕ) (rest : List Green) : Type 0 w
   pub phase : (row_at rest 0).phase ≡ j
   pub begins : b ≤ (row_at rest 0).from
 
-shortest-lawful : (plan : List Phase) (ks : List ℕ) (row : Green) (j b : ℕ) (rest : List Green) → IsPlan plan → IsGreen plan row → IsWalk (IsMarkedAt plan) plan row.phase ks j
+shortest-lawful : (plan : List Phase) (ks : List ℕ) (row : Green) (j b : ℕ) (rest : List Green) → IsRing plan → IsGreen plan row → IsWalk (IsMarkedAt plan) plan row.phase ks j → AreOthers row.phase ks j
     → begin_after plan (row.to + (phase_at plan row.phase).yellow + (phase_at plan row.phase).clear) ks ≤ b → IsRest plan j b rest
     → IsLawful plan (row ∷ shortest_greens plan (row.to + (phase_at plan row.phase).yellow + (phase_at plan row.phase).clear) ks ++ rest)
-shortest-lawful plan [] row j b rest p green walk time others =
-    lawful-cons plan row rest green (λ h. record { passed = subst (λ k. All (IsMarkedAt plan) (between plan row.phase k)) (sym others.phase) walk; begins = omega (arith, others.begins) }) others.lawful
-shortest-lawful plan (k ∷ ks) row j b rest p green walk time others =
+shortest-lawful plan [] row j b rest p green walk apart time others =
+    lawful-cons plan row rest green (λ h. record { passed = subst (λ k. All (IsMarkedAt plan) (between plan row.phase k)) (sym others.phase) walk; other = subst (λ k. k ≢ row.phase) (sym others.phase) apart; begins = omega (arith, others.begins) }) others.lawful
+shortest-lawful plan (k ∷ ks) row j b rest p green walk apart time others =
     let from = row.to + (phase_at plan row.phase).yellow + (phase_at plan row.phase).clear in
     let first : Green = record { phase = k; from = from; to = from + (phase_at plan k).least } in
     let times = phase-bounds plan k p walk.0 in
     let next : IsGreen plan first = record { phase = walk.0; least = omega arith; greatest = omega (arith, times.greatest) } in
     let same : from + passing (phase_at plan k) ≡ first.to + (phase_at plan k).yellow + (phase_at plan k).clear = omega arith in
     let short : begin_after plan (first.to + (phase_at plan k).yellow + (phase_at plan k).clear) ks ≤ b = omega (arith, ap (λ t. begin_after plan t ks) same) in
-    let later = shortest-lawful plan ks first j b rest p next walk.2 short others in
-    lawful-cons plan row (first ∷ shortest_greens plan (from + passing (phase_at plan k)) ks ++ rest) green (λ h. record { passed = walk.1; begins = omega arith })
+    let later = shortest-lawful plan ks first j b rest p next walk.2 apart.1 short others in
+    lawful-cons plan row (first ∷ shortest_greens plan (from + passing (phase_at plan k)) ks ++ rest) green (λ h. record { passed = walk.1; other = apart.0; begins = omega arith })
     (rw same later)
 
 -- a green that goes on
@@ -80,7 +80,7 @@ left-short plan head k b h below earliest =
     let in_time : to + switch_time plan head.phase k ≤ b = omega (arith, earliest) in
     omega (arith, begin_after-passed plan to head.phase k, in_time)
 
-left-line : (plan : List Phase) (head : Head) (k : ℕ) (s : Served) (until : ℕ) (rest : List Green) → IsPlan plan → IsHead plan head → head.at ≤ 104000 → k < length plan → IsAnyServing plan head k s
+left-line : (plan : List Phase) (head : Head) (k : ℕ) (s : Served) (until : ℕ) (rest : List Green) → IsRing plan → IsHead plan head → head.at ≤ 104000 → k < length plan → IsAnyServing plan head k s
     → earliest_green plan head k ≤ s.green → IsLineFrom plan (head_after k s) until rest
     → IsLineFrom plan head until (left_for plan head (last_end plan head k s.green) (passed_numbers plan head.phase k) ++ rest)
 left-line plan head k s until rest p h reach below keeps earliest line =
@@ -93,12 +93,12 @@ left-line plan head k s until rest p h reach below keeps earliest line =
     let short = left-short plan head k s.green h below earliest in
     let others : IsRest plan k s.green rest = record { lawful = line.lawful; some = line.begin.some; phase = line.begin.phase; begins = omega (arith, line.begin.begin) } in
     record {
-      lawful = shortest-lawful plan ks row k s.green rest p green (walk-passed plan head.phase k h.phase below) short others;
+      lawful = shortest-lawful plan ks row k s.green rest p green (walk-passed plan head.phase k h.phase below) (passed-others plan head.phase k p h.phase below) short others;
       begin = record { some = omega arith; phase = refl; begin = refl; spent = omega arith };
       end = omega (arith, line.end, end_of-last (row ∷ shortest_greens plan from ks) rest line.begin.some);
     }
 
-pub line_of-line : (plan : List Phase) (ks : List ℕ) (ss : List Served) (head : Head) (until : ℕ) → IsPlan plan → IsHead plan head → head.at ≤ 104000 → AreServings plan head ks ss
+pub line_of-line : (plan : List Phase) (ks : List ℕ) (ss : List Served) (head : Head) (until : ℕ) → IsRing plan → IsHead plan head → head.at ≤ 104000 → AreServings plan head ks ss
     → IsLineFrom plan head until (line_of plan head ks ss until)
 line_of-line plan [] [] head until p h reach servings =
     let times = phase-bounds plan head.phase p h.phase in
@@ -128,7 +128,7 @@ left-by plan head k b n rest h below earliest since early others =
     All-cons (λ (r : Green). r.from ≤ n) row (shortest_greens plan from ks ++ rest) since
     (All-append (λ (r : Green). r.from ≤ n) (shortest_greens plan from ks) rest (shortest-by plan from ks n short) others)
 
-pub line_of-by : (plan : List Phase) (ks : List ℕ) (ss : List Served) (head : Head) (until n : ℕ) → IsPlan plan → IsHead plan head → AreServings plan head ks ss
+pub line_of-by : (plan : List Phase) (ks : List ℕ) (ss : List Served) (head : Head) (until n : ℕ) → IsRing plan → IsHead plan head → AreServings plan head ks ss
     → head.since ≤ n → until + 20 ≤ n → All (λ (s : Served). s.green ≤ n) ss → BeginBy n (line_of plan head ks ss until)
 line_of-by plan [] ss head until n p h servings since last greens = turned-by plan (is_unmarked_at plan) p (passes-marked plan) head (head.since + (phase_at plan head.phase).greatest) until n h.phase since last
 line_of-by plan (k ∷ ks) [] head until n p h servings since last greens = absurd servings
@@ -161,7 +161,7 @@ HasGreens-behind front rows [] ss has = tt
 HasGreens-behind front rows (k ∷ ks) [] has = tt
 HasGreens-behind front rows (k ∷ ks) (s ∷ ss) has = (IsGreenOf-behind front rows k s has.0, HasGreens-behind front rows ks ss has.1)
 
-pub line_of-greens : (plan : List Phase) (ks : List ℕ) (ss : List Served) (head : Head) (until : ℕ) → IsPlan plan → IsHead plan head → head.at ≤ 104000 → AreServings plan head ks ss
+pub line_of-greens : (plan : List Phase) (ks : List ℕ) (ss : List Served) (head : Head) (until : ℕ) → IsRing plan → IsHead plan head → head.at ≤ 104000 → AreServings plan head ks ss
     → HasGreens (line_of plan head ks ss until) ks ss
 line_of-greens plan [] ss head until p h reach servings = tt
 line_of-greens plan (k ∷ ks) [] head until p h reach servings = tt
@@ -187,34 +187,29 @@ shortest-append plan from [] ls = refl
 shortest-append plan from (k ∷ ks) ls =
     ap (λ (rows : List Green). record { phase = k; from = from; to = from + (phase_at plan k).least } ∷ rows) (shortest-append plan (from + passing (phase_at plan k)) ks ls)
 
--- an unmarked phase gets its green, where those from it on were still to come
-pub shortest-step : (plan : List Phase) (k high at : ℕ) (p : Phase) (rows whole : List Green) → k < high → p ≡ phase_at plan k → p.skip ≡ false
-    → rows ++ shortest_greens plan at (unmarked plan (range_with_len k (high - k))) ≡ whole
-    → (rows ++ record { phase = k; from = at; to = at + p.least } ∷ []) ++ shortest_greens plan (at + p.least + p.yellow + p.clear) (unmarked plan (range_with_len (k + 1) (high - (k + 1)))) ≡ whole
-shortest-step plan k high at p rows whole h times mark so_far =
-    let rest = unmarked plan (range_with_len (k + 1) (high - (k + 1))) in
+-- a phase that a test passes gets its green, where those from it on were still to come
+pub shortest-step : (plan : List Phase) (test : ℕ → Bool) (k high at : ℕ) (p : Phase) (rows whole : List Green) → k < high → p ≡ phase_at plan k → test k ≡ true
+    → rows ++ shortest_greens plan at (filter test (range_with_len k (high - k))) ≡ whole
+    → (rows ++ record { phase = k; from = at; to = at + p.least } ∷ []) ++ shortest_greens plan (at + p.least + p.yellow + p.clear) (filter test (range_with_len (k + 1) (high - (k + 1)))) ≡ whole
+shortest-step plan test k high at p rows whole h times passes so_far =
+    let rest = filter test (range_with_len (k + 1) (high - (k + 1))) in
     let row = λ (q : Phase). let r : Green = record { phase = k; from = at; to = at + q.least } in r in
     let same : at + p.least + p.yellow + p.clear ≡ at + passing p = omega arith in
     append_assoc rows (row p ∷ []) (shortest_greens plan (at + p.least + p.yellow + p.clear) rest)
     ∙ ap (λ (b : ℕ). rows ++ row p ∷ shortest_greens plan b rest) same
     ∙ ap (λ (q : Phase). rows ++ row q ∷ shortest_greens plan (at + passing q) rest) times
-    ∙ ap (λ (ks : List ℕ). rows ++ shortest_greens plan at ks) (sym (unmarked-first plan k high false h (ap (λ (q : Phase). q.skip) (sym times) ∙ mark)))
+    ∙ ap (λ (ks : List ℕ). rows ++ shortest_greens plan at ks) (sym (stops-first test k high true h passes))
     ∙ so_far
 
-pub behind-step : (plan : List Phase) (k high at whole : ℕ) (p : Phase) → k < high → p ≡ phase_at plan k → p.skip ≡ false → begin_after plan at (unmarked plan (range_with_len k (high - k))) ≡ whole
-    → begin_after plan (at + p.least + p.yellow + p.clear) (unmarked plan (range_with_len (k + 1) (high - (k + 1)))) ≡ whole
-behind-step plan k high at whole p h times mark so_far =
-    let rest = unmarked plan (range_with_len (k + 1) (high - (k + 1))) in
+pub behind-step : (plan : List Phase) (test : ℕ → Bool) (k high at whole : ℕ) (p : Phase) → k < high → p ≡ phase_at plan k → test k ≡ true → begin_after plan at (filter test (range_with_len k (high - k))) ≡ whole
+    → begin_after plan (at + p.least + p.yellow + p.clear) (filter test (range_with_len (k + 1) (high - (k + 1)))) ≡ whole
+behind-step plan test k high at whole p h times passes so_far =
+    let rest = filter test (range_with_len (k + 1) (high - (k + 1))) in
     let same : at + p.least + p.yellow + p.clear ≡ at + passing p = omega arith in
     ap (λ (b : ℕ). begin_after plan b rest) same
     ∙ ap (λ (q : Phase). begin_after plan (at + passing q) rest) times
-    ∙ ap (begin_after plan at) (sym (unmarked-first plan k high false h (ap (λ (q : Phase). q.skip) (sym times) ∙ mark)))
+    ∙ ap (begin_after plan at) (sym (stops-first test k high true h passes))
     ∙ so_far
-
--- a marked one is left out
-pub marked-step : (plan : List Phase) (k high : ℕ) (p : Phase) → k < high → p ≡ phase_at plan k → p.skip ≡ true
-    → unmarked plan (range_with_len (k + 1) (high - (k + 1))) ≡ unmarked plan (range_with_len k (high - k))
-marked-step plan k high p h times mark = sym (unmarked-first plan k high true h (ap (λ (q : Phase). q.skip) (sym times) ∙ mark))
 
 -- greens of the phases up to the end of the ring, and then of those from its begin
 pub shortest-both : (plan : List Phase) (from behind : ℕ) (ks ls : List ℕ) (old rows whole : List Green) → rows ≡ old ++ shortest_greens plan from ks → behind ≡ begin_after plan from ks → whole ≡ rows ++ shortest_greens plan behind ls

@@ -6,7 +6,7 @@ use Rattle.std.specs.List.Sorted.{IsNonDecreasingBy}
 use Rattle.std.proofs.lemmas.Bool.{cases_eq, cases_lt, cond_below, cond_above, and_from, and_left, and_parts, and_right, leb-true, ltb-true, lt-ltb, le-leb, lt-leb, le-ltb}
 use Rattle.std.proofs.lemmas.List.Sorted.{IsNonDecreasingBy-from_default}
 use Rattle.std.proofs.lemmas.List.Elements.{All-cons, All-head, All-tail, All-weaker, All-get_or}
-use Rattle.phase_plan.specs.Phases.{IsPlan}
+use Rattle.phase_plan.specs.Phases.{IsRing}
 use Rattle.phase_plan.specs.declared.Phase.{Phase}
 use Rattle.phase_plan.proofs.RingLaws.{phase-bounds}
 use Rattle.control_flow.specs.declared.greens.Green.{Green}
@@ -44,11 +44,11 @@ pub order-next : (row next : Green) (rows : List Green) → IsInOrder (row ∷ n
 order-next row next rows o = o.order 0 (omega arith)
 
 -- a green lasts a second at least
-pub green-length : (plan : List Phase) (row : Green) → IsPlan plan → IsGreen plan row → row.from + 1 ≤ row.to
+pub green-length : (plan : List Phase) (row : Green) → IsRing plan → IsGreen plan row → row.from + 1 ≤ row.to
 green-length plan row p green = let times = phase-bounds plan row.phase p green.phase in omega (arith, times.least, green.least)
 
 -- lawful rows are in order
-pub order-lawful : (plan : List Phase) (rows : List Green) → IsPlan plan → IsLawful plan rows → IsInOrder rows
+pub order-lawful : (plan : List Phase) (rows : List Green) → IsRing plan → IsLawful plan rows → IsInOrder rows
 order-lawful plan rows p lawful = record {
   long = All-weaker (IsGreen plan) IsLong (λ row green. let long = green-length plan row p green in omega arith) rows lawful.greens;
   order = λ k h. let next = lawful.order k h in omega (arith, next.begins);

@@ -1,7 +1,7 @@
 -- What a sequence serves are servings of its phases, one after another.
 use Rattle.std.proofs.Common.{◌≡◌, ℕ, List, [], ◌∷◌, length, All, Some, arith}
 use Rattle.std.specs.Option.{option_map}
-use Rattle.phase_plan.specs.Phases.{IsPlan}
+use Rattle.phase_plan.specs.Phases.{IsRing}
 use Rattle.phase_plan.specs.declared.Phase.{Phase}
 use Rattle.switch_rules.specs.Serving.{IsHead, IsCluster, head_after}
 use Rattle.switch_rules.specs.Orders.{one_less}
@@ -12,7 +12,7 @@ use Rattle.switch_rules.specs.declared.Served.{Served}
 use Rattle.switch_rules.proofs.SequenceLaws.{listed-next, next-within}
 use Rattle.control_flow.specs.Timelines.{AreServings, IsServingOf}
 
-module _ (plan : List Phase) (lists : List (List Cluster)) (p : IsPlan plan) (each : length lists ≡ length plan) (bounds : All (All IsCluster) lists) where
+module _ (plan : List Phase) (lists : List (List Cluster)) (p : IsRing plan) (each : length lists ≡ length plan) (bounds : All (All IsCluster) lists) where
   -- servings of the next clusters are servings
   pub next-servings : (ks left : List ℕ) (head : Head) (ss : List Served) → AreNextServings plan lists left head ks ss → AreServings plan head ks ss
   next-servings [] left head [] next = tt

@@ -1,11 +1,10 @@
 -- The turning of a ring that stops at all unmarked phases, and maybe at others: it is lawful, and ends late enough.
-use Rattle.std.proofs.Common.{◌≡◌, ℕ, zero, suc, ◌+◌, ◌-◌, ◌<◌, ◌≤◌, Bool, true, cond, eqb, ltb, List, [], ◌∷◌, ◌++◌, length, filter, refl, sym, ap, ◌∙◌, arith, append_assoc}
-use Rattle.std.specs.List.{range_with_len}
+use Rattle.std.proofs.Common.{◌≡◌, ℕ, zero, suc, ◌+◌, ◌-◌, ◌<◌, ◌≤◌, Bool, true, eqb, cond, ltb, List, [], ◌∷◌, ◌++◌, length, refl, sym, ap, ◌∙◌, arith, append_assoc}
 use Rattle.std.proofs.Math.Bool.{or-false}
 use Rattle.std.proofs.lemmas.Bool.{cond_below, cond_above, cond_both, eqb-true, ltb-true, ltb-false, or_parts}
 use Rattle.std.proofs.lemmas.List.{nil_from_length}
 use Rattle.std.proofs.lemmas.List.Elements.{All-nil, All-cons, All-weaker}
-use Rattle.phase_plan.specs.Phases.{IsPlan, first_up, is_unmarked_at, phase_at}
+use Rattle.phase_plan.specs.Phases.{IsRing, first_up, is_unmarked_at, phase_at}
 use Rattle.phase_plan.specs.declared.Phase.{Phase}
 use Rattle.phase_plan.proofs.RingLaws.{PassesMarked, first-up, passes-marked, phase-bounds}
 use Rattle.switch_rules.specs.Serving.{IsHead}
@@ -31,16 +30,8 @@ first-uncalled plan calls s e =
     ∙ ap (λ (cs : List ℕ). first_up plan (stops_at plan cs) s) (sym (nil_from_length calls (eqb-true (length calls) 0 e)))
 
 -- its next stop is a phase of the plan
-pub next-below : (plan : List Phase) (calls : List ℕ) (s k : ℕ) → IsPlan plan → s < length plan → k ≡ first_up plan (stops_at plan calls) s → k < length plan
+pub next-below : (plan : List Phase) (calls : List ℕ) (s k : ℕ) → IsRing plan → s < length plan → k ≡ first_up plan (stops_at plan calls) s → k < length plan
 next-below plan calls s k p h is = (let below = (first-up plan (stops_at plan calls) s p (passes-called plan calls) h).below in omega (arith, is, below))
-
--- those from a phase on are the phase, where the ring stops there, and those after it
-pub stops-first : (stops : ℕ → Bool) (k high : ℕ) (stop : Bool) → k < high → stops k ≡ stop
-    → filter stops (range_with_len k (high - k)) ≡ cond stop (k ∷ filter stops (range_with_len (k + 1) (high - (k + 1)))) (filter stops (range_with_len (k + 1) (high - (k + 1))))
-stops-first stops k high stop h is =
-    let rest = filter stops (range_with_len (k + 1) (high - (k + 1))) in
-    let e : high - k ≡ suc (high - (k + 1)) = omega arith in
-    ap (λ (n : ℕ). filter stops (range_with_len k n)) e ∙ ap (λ (b : Bool). cond b (k ∷ rest) rest) is
 
 -- what the timelines from a head have in common
 pub record IsLineFrom (plan : List Phase) (head : Head) (until : ℕ) (rows : List Green) : Type 0 where
@@ -51,7 +42,7 @@ pub record IsLineFrom (plan : List Phase) (head : Head) (until : ℕ) (rows : Li
 alone : (plan : List Phase) (row : Green) → IsGreen plan row → IsLawful plan (row ∷ [])
 alone plan row green = lawful-cons plan row [] green (λ h. absurd (omega arith)) (lawful-nil plan)
 
-module _ (plan : List Phase) (stops : ℕ → Bool) (p : IsPlan plan) (passes : PassesMarked plan stops) where
+module _ (plan : List Phase) (stops : ℕ → Bool) (p : IsRing plan) (passes : PassesMarked plan stops) where
   -- a green of the ring after a row
 
   first-below : (s : ℕ) → s < length plan → first_up plan stops s < length plan
@@ -74,7 +65,7 @@ module _ (plan : List Phase) (stops : ℕ → Bool) (p : IsPlan plan) (passes : 
       cond_both (ltb until row.to) [] (next ∷ turning plan stops most until next.phase next.to) (λ rows. IsLawful plan (row ∷ rows))
       (λ e. alone plan row green)
       (λ e.
-      lawful-cons plan row (next ∷ turning plan stops most until next.phase next.to) green (λ h. record { passed = (first-up plan stops row.phase p passes green.phase).passed; begins = omega arith })
+      lawful-cons plan row (next ∷ turning plan stops most until next.phase next.to) green (λ h. (let up = first-up plan stops row.phase p passes green.phase in record { passed = up.passed; other = up.other; begins = omega arith }))
       later)
 
   turning-end : (until most : ℕ) (row : Green) → row.phase < length plan → until + 1 ≤ most + row.to → until < end_of (row ∷ turning plan stops most until row.phase row.to)

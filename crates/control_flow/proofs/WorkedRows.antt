@@ -1,5 +1,5 @@
 -- Small timelines, worked out by hand and computed here from the definitions.
-use Rattle.std.proofs.Common.{◌≡◌, ℕ, true, false, List, [], ◌∷◌, Some, None, Ok, refl}
+use Rattle.std.proofs.Common.{◌≡◌, ◌==◌, ℕ, true, false, List, [], ◌∷◌, Some, None, Ok, refl}
 use Rattle.phase_plan.specs.declared.Phase.{Phase}
 use Rattle.phase_plan.specs.Phases.{passed_numbers, switch_time}
 use Rattle.switch_rules.specs.Serving.{head_after, serving}
@@ -11,7 +11,8 @@ use Rattle.control_flow.specs.declared.greens.Colour.TheVariants as colours
 use Rattle.control_flow.specs.declared.greens.Sign.TheVariants as signs
 use Rattle.control_flow.specs.Signs.{sign_at}
 use Rattle.control_flow.specs.Greens.{green_at, standing, colour_at, head_at, spliced, end_of}
-use Rattle.control_flow.specs.Timelines.{line_of, rotation_of}
+use Rattle.control_flow.specs.Timelines.{line_of, rotation_of, stops_at, turned}
+use Rattle.control_flow.specs.Recalls.{recalled}
 
 abbrev usual : Phase
 usual = record { least = 5; greatest = 30; yellow = 3; clear = 2; loss = 2; wait = 120; skip = false }
@@ -193,6 +194,47 @@ passed_to_marked = refl
 
 passed_from_marked : passed_numbers marked 1 1 ≡ 2 ∷ 0 ∷ []
 passed_from_marked = refl
+
+-- a free ring: directly to a later phase, and to a second green of the same phase by all others
+
+abbrev free : List Phase
+free = record usual { skip = true } ∷ record usual { skip = true } ∷ record usual { skip = true } ∷ []
+
+abbrev direct_served : Served
+direct_served = record { green = 20; start = 20; finish = 22; cost = 0; kept = false }
+
+direct_fit : serving free (head 0 0 0) 2 (cluster 1000 20 2) ≡ Ok (direct_served, head_after 2 direct_served)
+direct_fit = refl
+
+abbrev again_served : Served
+again_served = record { green = 60; start = 60; finish = 62; cost = 0; kept = false }
+
+again_fit : serving free (head_after 2 direct_served) 2 (cluster 1000 60 2) ≡ Ok (again_served, head_after 2 again_served)
+again_fit = refl
+
+free_line : line_of free (head 0 0 0) (2 ∷ 2 ∷ []) (direct_served ∷ again_served ∷ []) 60
+    ≡ green 0 0 15 ∷ green 2 20 35 ∷ green 0 40 45 ∷ green 1 50 55 ∷ green 2 60 90 ∷ []
+free_line = refl
+
+-- with no plan it turns as if no phase were marked, and where one is called it goes there, and then to the next one
+free_turns : rotation_of free (head 2 0 0) 20 ≡ green 2 0 5 ∷ green 0 10 15 ∷ green 1 20 25 ∷ []
+free_turns = refl
+
+free_called : turned free (stops_at free (0 ∷ 0 ∷ 1 ∷ [])) (head 0 0 0) 5 25 ≡ green 0 0 5 ∷ green 2 10 15 ∷ green 0 20 25 ∷ green 2 30 35 ∷ []
+free_called = refl
+
+-- a call takes the marks of all, and in another ring its own
+free_recalled : recalled free (λ k. k == 1) ≡ three
+free_recalled = refl
+
+free_uncalled : recalled free (λ k. k == 3) ≡ free
+free_uncalled = refl
+
+marked_recalled : recalled marked (λ k. k == 1) ≡ three
+marked_recalled = refl
+
+marked_uncalled : recalled marked (λ k. k == 0) ≡ marked
+marked_uncalled = refl
 
 -- with no plan
 

@@ -1,5 +1,5 @@
 -- Which greens may follow one another, whatever made them, and what a signal shows at a second.
-use Rattle.std.specs.Prelude.{◌≡◌, ℕ, ◌+◌, ◌<◌, ◌≤◌, List, length, slice_index_or, All, find, Bool, IsTrue, ◌==◌, ◌&&◌, nat_le, nat_lt, true, if◌then◌else◌, Option, [], ◌∷◌, ◌++◌}
+use Rattle.std.specs.Prelude.{◌≡◌, ◌≢◌, ℕ, ◌+◌, ◌<◌, ◌≤◌, List, length, slice_index_or, All, find, Bool, IsTrue, ◌==◌, ◌&&◌, nat_le, nat_lt, true, if◌then◌else◌, Option, [], ◌∷◌, ◌++◌}
 use Rattle.std.specs.List.{list_any}
 use Rattle.std.specs.Option.{option_map}
 use Rattle.phase_plan.specs.Phases.{IsMarkedAt, between, phase_at}
@@ -35,10 +35,11 @@ pub record IsGreen (plan : List Phase) (row : Green) : Type 0 where
   pub least : row.from + (phase_at plan row.phase).least ≤ row.to
   pub greatest : row.to ≤ row.from + (phase_at plan row.phase).greatest
 
--- all phases between that of a row and that of the row after it, going up the ring, are marked, and the row after it begins
--- after yellow and all-red at the earliest
+-- the row after it is of another phase, all phases between, going up the ring, are marked, and it begins after yellow and
+-- all-red at the earliest
 pub record Follows (plan : List Phase) (row next : Green) : Type 0 where
   pub passed : All (IsMarkedAt plan) (between plan row.phase next.phase)
+  pub other : next.phase ≢ row.phase
   pub begins : row.to + (phase_at plan row.phase).yellow + (phase_at plan row.phase).clear ≤ next.from
 
 -- a lawful timeline: each row is a green of the plan, and each but the first follows the row before it

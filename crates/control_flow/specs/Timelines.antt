@@ -57,8 +57,8 @@ abbrev pub left_for : List Phase → Head → ℕ → List ℕ → List Green
 left_for plan head to ks =
     record { phase = head.phase; from = head.since; to = to } ∷ shortest_greens plan (to + (phase_at plan head.phase).yellow + (phase_at plan head.phase).clear) ks
 
--- the green after one of phase s up to this second: of the first phase up the ring at which it stops by this test, as early
--- as it may be, of its least length
+-- the green after one of phase s up to this second: of the first phase up the ring at which it stops by this test, or of the one
+-- after s where it stops at no other, as early as it may be, of its least length
 abbrev pub green_after : List Phase → (ℕ → Bool) → ℕ → ℕ → Green
 green_after plan stops s to =
     let k = first_up plan stops s in
@@ -87,7 +87,7 @@ stops_at plan calls k = is_unmarked_at plan k || calls_for calls k
 
 -- the timeline of servings from a head: a green that goes on is one row; a green that is left for a new one ends as late
 -- as it may, and the ring passes to the new one; the last green is held as long as it may, and then the ring turns, stopping
--- at unmarked phases
+-- at unmarked phases, and in a free ring at each
 abbrev pub line_of : List Phase → Head → List ℕ → List Served → ℕ → List Green
 line_of plan head [] served until = turned plan (is_unmarked_at plan) head (head.since + (phase_at plan head.phase).greatest) until
 line_of plan head (k ∷ ks) [] until = turned plan (is_unmarked_at plan) head (head.since + (phase_at plan head.phase).greatest) until
@@ -96,7 +96,7 @@ line_of plan head (k ∷ ks) (s ∷ ss) until =
     else left_for plan head (last_end plan head k s.green) (passed_numbers plan head.phase k) ++ line_of plan (head_after k s) ks ss until
 
 -- the timeline from a head with no plan: its green ends as early as it may, and then the ring turns, with a green of least length
--- for each unmarked phase, until a green ends after second `until`
+-- for each unmarked phase, in a free ring for each, until a green ends after second `until`
 abbrev pub rotation_of : List Phase → Head → ℕ → List Green
 rotation_of plan head until = turned plan (is_unmarked_at plan) head (earliest_end plan head) until
 

@@ -70,7 +70,7 @@ impl Model for Timeline {
 
 impl Timeline {
     ghost use Rattle.std.specs.Prelude.{◌≡◌, ℕ, Some, List, OnErr, OnOk};
-    ghost use Rattle.phase_plan.specs.Phases.{IsPlan};
+    ghost use Rattle.phase_plan.specs.Phases.{IsRing};
     ghost use Rattle.phase_plan.specs.declared.Phase.{Phase};
     ghost use Rattle.switch_rules.specs.declared.Head.{Head};
     ghost use Rattle.control_flow.specs.Greens.{GoesOn, IsContinued, IsInOrder, IsLawful, Joins, head_at, spliced};
@@ -113,7 +113,7 @@ impl Timeline {
         ensures ok { OnOk result (self.new ≡ spliced self.old next) }
         ensures refused { OnErr result (self.new ≡ self.old) }
         ensures law { (plan : List Phase) (now : ℕ) (head : Head)
-            → IsPlan plan → IsLawful plan self.old → head_at plan self.old now ≡ Some head → IsLawful plan next
+            → IsRing plan → IsLawful plan self.old → head_at plan self.old now ≡ Some head → IsLawful plan next
             → GoesOn head next
             → OnOk result (IsContinued plan self.old now next self.new) }
     {

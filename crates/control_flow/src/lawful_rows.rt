@@ -23,8 +23,9 @@ pub fn is_green(plan: &PhasePlan, row: &Green) -> bool
     times.least <= long && long <= times.greatest
 }
 
-/// Whether a row may follow one of a phase of the plan: all phases between, going up the ring, are marked, and it
-/// begins, at the earliest, after the yellow and the clear time of that row. The seconds of both rows are any.
+/// Whether a row may follow one of a phase of the plan: it is of another phase, all phases between, going up the ring,
+/// are marked, and it begins, at the earliest, after the yellow and the clear time of that row. The seconds of both
+/// rows are any.
 ///
 /// docs/RULES.md, "Timeline".
 pub fn follows(plan: &PhasePlan, before: &Green, next: &Green) -> bool
@@ -34,6 +35,7 @@ pub fn follows(plan: &PhasePlan, before: &Green, next: &Green) -> bool
     let times = plan.phase(before.phase);
     before.to <= next.from
         && times.yellow + times.clear <= next.from - before.to
+        && next.phase != before.phase
         && are_marked_between(plan, before.phase, next.phase)
 }
 

@@ -3,7 +3,7 @@
 ghost use Rattle.std.specs.Prelude.{◌≡◌, ℕ, ◌-◌, ◌<◌, ◌≤◌, ◌++◌, filter, length, slice_get, OnOk};
 ghost use Rattle.std.specs.List.{range_with_len};
 ghost use Rattle.phase_plan.specs.Phases as ring;
-ghost use Rattle.phase_plan.specs.Phases.{IsPlan, first_up};
+ghost use Rattle.phase_plan.specs.Phases.{IsRing, first_up};
 ghost use Rattle.switch_rules.specs.Bounds.{latest_time};
 ghost use Rattle.control_flow.specs.Timelines as spec;
 ghost use Rattle.control_flow.specs.Timelines.{calls_for, green_after, stops_at, turned};
@@ -14,7 +14,7 @@ use std::alloc::AllocError;
 use switch_rules::Head;
 
 /// Adds the green of a head up to `to`, and then greens of the ring, each of its least length, until one ends after
-/// `until`. The ring stops at the phases that are unmarked or called.
+/// `until`. The ring stops at the phases that are unmarked or called; where none is, it goes to the next one.
 pub(crate) fn turn(
     plan: &PhasePlan,
     calls: &[u32],
@@ -23,7 +23,7 @@ pub(crate) fn turn(
     until: u32,
     rows: &mut Vec<Green>,
 ) -> Result<(), AllocError>
-    requires plan { IsPlan plan.now }
+    requires ring { IsRing plan.now }
     requires phase { head.now.phase < length plan.now }
     requires to { to ≤ 105000 }
     requires until { until ≤ latest_time }
@@ -43,10 +43,10 @@ pub(crate) fn turn(
     Ok(())
 }
 
-/// The green of the first phase up the ring after a row that is unmarked or called, as early as it may be, of its least
-/// length.
+/// The green of the first phase up the ring after a row that is unmarked or called, or of the next one, as early as it
+/// may be, of its least length.
 fn green_after(plan: &PhasePlan, calls: &[u32], row: &Green) -> Green
-    requires plan { IsPlan plan.now }
+    requires ring { IsRing plan.now }
     requires phase { row.now.phase < length plan.now }
     requires to { row.now.to ≤ latest_time }
     ensures value { result ≡ green_after plan.now (stops_at plan.now calls.now) row.now.phase row.now.to }
@@ -64,9 +64,9 @@ fn green_after(plan: &PhasePlan, calls: &[u32], row: &Green) -> Green
     }
 }
 
-/// The first phase up the ring from phase `s` that is unmarked or called.
+/// The first phase up the ring from phase `s` that is unmarked or called; the one after `s` where no other is.
 fn next_stop(plan: &PhasePlan, calls: &[u32], s: u8) -> u8
-    requires plan { IsPlan plan.now }
+    requires ring { IsRing plan.now }
     requires phase { s < length plan.now }
     ensures value { result ≡ first_up plan.now (stops_at plan.now calls.now) s }
     ensures bounds { result < length plan.now }
@@ -77,16 +77,25 @@ fn next_stop(plan: &PhasePlan, calls: &[u32], s: u8) -> u8
     first_up(plan, calls, s)
 }
 
-/// The first phase up the ring from phase `s` that is unmarked or called, by a search.
+/// The first phase up the ring from phase `s` that is unmarked or called, or the one after `s`, by a search.
 fn first_up(plan: &PhasePlan, calls: &[u32], s: u8) -> u8
-    requires plan { IsPlan plan.now }
+    requires ring { IsRing plan.now }
     requires phase { s < length plan.now }
     ensures { result ≡ ring.first_up plan.now (stops_at plan.now calls.now) s }
 {
     match first_stop(plan, calls, s + 1, plan.count()) {
         Some(k) => k,
-        None => first_stop(plan, calls, 0, s).unwrap_or(0),
+        None => first_stop(plan, calls, 0, s).unwrap_or(one_up(plan, s)),
     }
+}
+
+/// The phase after `s` up the ring.
+fn one_up(plan: &PhasePlan, s: u8) -> u8
+    requires { s < length plan.now }
+    ensures { result ≡ ring.one_up plan.now s }
+{
+    let count = plan.count();
+    if s + 1 < count { s + 1 } else { 0 }
 }
 
 /// The first phase from `low` up to `high` that is unmarked or called.

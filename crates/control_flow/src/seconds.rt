@@ -30,7 +30,7 @@ pub fn head_at(plan: &PhasePlan, line: &Timeline, now: u32) -> Head
     ensures joins { (next : List Green) → GoesOn result next → Joins line.now next }
     ensures apart { AreApart plan.now line.now }
 {
-    // Called for its clause `plan`.
+    // Called for its clause `ring`.
     let _ = plan.count();
     let Some(row) = row_after(line, now) else {
         unreachable!()

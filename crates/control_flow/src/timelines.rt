@@ -1,8 +1,9 @@
 //! The timeline of a plan of servings, and that of no plan.
 
-ghost use Rattle.std.specs.Prelude.{◌≡◌, ℕ, ◌+◌, ◌-◌, ◌<◌, ◌≤◌, ◌++◌, filter, length, All, OnOk, IfOk};
+ghost use Rattle.std.specs.Prelude.{◌≡◌, ℕ, ◌+◌, ◌-◌, ◌<◌, ◌≤◌, ◌++◌, ◌||◌, filter, length, All, OnOk, IfOk};
 ghost use Rattle.std.specs.List.{range_with_len};
-ghost use Rattle.phase_plan.specs.Phases.{IsPlan, is_unmarked_at, passed_numbers, phase_at};
+ghost use Rattle.phase_plan.specs.Phases as spec;
+ghost use Rattle.phase_plan.specs.Phases.{IsRing, is_unmarked_at, passed_numbers, phase_at};
 ghost use Rattle.switch_rules.specs.Bounds.{latest_time};
 ghost use Rattle.switch_rules.specs.Serving.{IsHead, earliest_end, earliest_green};
 ghost use Rattle.control_flow.specs.Greens.{AreApart, BeginBy, GoesOn, IsLawful, end_of};
@@ -42,8 +43,8 @@ pub fn timeline(
     ensures begins_by { (n : ℕ) → head.now.since ≤ n → until + 20 ≤ n → All (λ s. s.green ≤ n) served.now
         → IfOk result (BeginBy n) }
 {
-    // Called for its clause: the phases are a plan.
-    law_of_plans(plan);
+    // Called for its clause: the phases are those of a ring.
+    law_of_rings(plan);
     let mut rows = Vec::with_capacity(alloc, phases.len() + 2 * usize::from(plan.count()))?;
     let mut current = *head;
     for (index, phase) in phases.iter().enumerate() {
@@ -85,15 +86,16 @@ pub fn rotation(
     ensures end { IfOk result (λ line. until < end_of line) }
     ensures begins_by { (n : ℕ) → head.now.since ≤ n → until + 20 ≤ n → IfOk result (BeginBy n) }
 {
-    // Called for its clause: the phases are a plan.
-    law_of_plans(plan);
+    // Called for its clause: the phases are those of a ring.
+    law_of_rings(plan);
     let earliest = earliest_end(plan, head);
     rotation_by_calls(alloc, plan, head, earliest, &[], until)
 }
 
 /// The timeline of a green that ends at a given second: the green of the head ends at `to`, and then the ring turns,
 /// each green of its least length, until one ends after second `until`. The ring stops at the phases that are
-/// unmarked or called: those with a number above 0 in `calls`, where a phase without a number has 0.
+/// unmarked or called: those with a number above 0 in `calls`, where a phase without a number has 0. Where no other than
+/// the present one is, it goes to the phase after it.
 ///
 /// The head is one of the plan, and `at` and `until` are at most 104,000. `to` is not before the green may end, nor
 /// after it has to. `Err`: out of memory.
@@ -119,16 +121,16 @@ pub fn rotation_by_calls(
     ensures end { IfOk result (λ line. until < end_of line) }
     ensures begins_by { (n : ℕ) → head.now.since ≤ n → until + 20 ≤ n → IfOk result (BeginBy n) }
 {
-    // Called for its clause: the phases are a plan.
-    law_of_plans(plan);
+    // Called for its clause: the phases are those of a ring.
+    law_of_rings(plan);
     let mut rows = Vec::with_capacity(alloc, 8)?;
     turn(plan, calls, head, to, until, &mut rows)?;
     Ok(Timeline::from_rows(rows))
 }
 
-/// The phases are a plan.
-fn law_of_plans(plan: &PhasePlan)
-    ensures { IsPlan plan.now }
+/// The phases are those of a ring.
+fn law_of_rings(plan: &PhasePlan)
+    ensures { IsRing plan.now }
 {
     let _ = plan.count();
 }
@@ -142,7 +144,7 @@ fn leave(
     begin: u32,
     rows: &mut Vec<Green>,
 ) -> Result<(), AllocError>
-    requires plan { IsPlan plan.now }
+    requires ring { IsRing plan.now }
     requires head { IsHead plan.now head.now }
     requires reach { head.now.at ≤ latest_time }
     requires phase { phase < length plan.now }
@@ -177,50 +179,67 @@ fn pass(
     from: u32,
     rows: &mut Vec<Green>,
 ) -> Result<(), AllocError>
-    requires plan { IsPlan plan.now }
+    requires ring { IsRing plan.now }
     requires leaving { leaving < length plan.now }
     requires wanted { wanted < length plan.now }
     requires from { from ≤ 105000 }
     ensures { OnOk result (rows.new.items
         ≡ rows.old.items ++ shortest_greens plan.now from (passed_numbers plan.now leaving wanted)) }
 {
+    let all = passes_all(plan, leaving, wanted);
     if leaving < wanted {
-        add_shortest(plan, leaving + 1, wanted, from, rows)?;
+        add_shortest(plan, leaving + 1, wanted, all, from, rows)?;
     } else {
-        let from = add_shortest(plan, leaving + 1, plan.count(), from, rows)?;
-        add_shortest(plan, 0, wanted, from, rows)?;
+        let from = add_shortest(plan, leaving + 1, plan.count(), all, from, rows)?;
+        add_shortest(plan, 0, wanted, all, from, rows)?;
     }
     Ok(())
 }
 
-/// Adds greens of the unmarked phases from `low` up to `high`, each of its least length, from `from` on; the second at
-/// which the next green can begin.
+/// Whether the ring passes all others on its way between two phases: it is free, and they are the same.
+fn passes_all(plan: &PhasePlan, leaving: u8, wanted: u8) -> bool
+    ensures { result ≡ spec.passes_all plan.now leaving wanted }
+{
+    plan.is_free() && leaving == wanted
+}
+
+/// Adds greens of the unmarked phases from `low` up to `high`, or of all, each of its least length, from `from` on; the
+/// second at which the next green can begin.
 fn add_shortest(
     plan: &PhasePlan,
     low: u8,
     high: u8,
+    all: bool,
     from: u32,
     rows: &mut Vec<Green>,
 ) -> Result<u32, AllocError>
-    requires plan { IsPlan plan.now }
+    requires ring { IsRing plan.now }
     requires low { low ≤ high }
     requires high { high ≤ length plan.now }
     requires from { from ≤ 106000 }
     ensures rows { OnOk result (rows.new.items
-        ≡ rows.old.items ++ shortest_greens plan.now from (filter (is_unmarked_at plan.now) (range_with_len low (high - low)))) }
+        ≡ rows.old.items ++ shortest_greens plan.now from (filter (λ k. is_unmarked_at plan.now k || all) (range_with_len low (high - low)))) }
     ensures behind { IfOk result (λ next. next
-        ≡ begin_after plan.now from (filter (is_unmarked_at plan.now) (range_with_len low (high - low)))) }
+        ≡ begin_after plan.now from (filter (λ k. is_unmarked_at plan.now k || all) (range_with_len low (high - low)))) }
     ensures bounds { IfOk result (λ next. next ≤ from + 560) }
 {
     let mut from = from;
     for phase in low..high {
-        let times = plan.phase(phase);
-        if times.skip {
+        if !is_shown(plan, phase, all) {
             continue;
         }
+        let times = plan.phase(phase);
         let to = from + times.least;
         rows.push(Green { phase, from, to })?;
         from = to + times.yellow + times.clear;
     }
     Ok(from)
+}
+
+/// Whether the ring shows a green of a phase that it passes: of an unmarked one, or of each.
+fn is_shown(plan: &PhasePlan, phase: u8, all: bool) -> bool
+    requires { phase < length plan.now }
+    ensures { result ≡ (is_unmarked_at plan.now phase || all) }
+{
+    !plan.phase(phase).skip || all
 }

@@ -1,6 +1,6 @@
 use Rattle.std.proofs.Common.{false, sym, ◌∙◌}
 use Rattle.control_flow.specs.Timelines.{stops_at}
-use Rattle.control_flow.proofs.TurningLaws.{stops-first}
+use Rattle.phase_plan.proofs.RingLaws.{stops-first}
 use Rattle.control_flow.proofs.ring.first_stop.Goals as goal
 
 pub loop-phase-preserved : goal.loop-phase-preserved

@@ -15,7 +15,7 @@ loop-last-init c =
     record {
       rows = ap (λ (rows : List Green). rows ++ others) c.in_ok-push.ensures.items
           ∙ append_assoc old (row ∷ []) others
-          ∙ ap (λ (rows : List Green). old ++ rows) (sym (turned-is plan (stops_at plan calls) c.requires.plan (passes-called plan calls) head c.args.to c.args.until c.requires.phase));
+          ∙ ap (λ (rows : List Green). old ++ rows) (sym (turned-is plan (stops_at plan calls) c.requires.ring (passes-called plan calls) head c.args.to c.args.until c.requires.phase));
       phase = c.requires.phase;
     }
 
@@ -28,6 +28,6 @@ loop-last-preserved c =
     let others = turning plan (stops_at plan calls) (c.args.until + 1 - next.to) c.args.until next.phase next.to in
     record {
       rows = ap (λ (rows : List Green). rows ++ others) c.in_ok-push-2.ensures.items
-          ∙ turning-more plan (stops_at plan calls) c.requires.plan (passes-called plan calls) c.args.until l.last.phase l.last.to next l.rows.items _ l.invariant.phase c.loop-last-test.true c.green_after-last.ensures.value l.invariant.rows;
+          ∙ turning-more plan (stops_at plan calls) c.requires.ring (passes-called plan calls) c.args.until l.last.phase l.last.to next l.rows.items _ l.invariant.phase c.loop-last-test.true c.green_after-last.ensures.value l.invariant.rows;
       phase = c.green_after-last.ensures.phase;
     }

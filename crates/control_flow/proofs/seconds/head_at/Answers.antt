@@ -38,4 +38,4 @@ pub returns-clause-joins : goal.returns-clause-joins
 returns-clause-joins c next begin = joins-head c.args.plan.now c.args.line.now c.args.now c.head_in.result next (returns-clause-value c) begin
 
 pub returns-clause-apart : goal.returns-clause-apart
-returns-clause-apart c = are-apart c.args.plan.now c.args.line.now c.count.ensures.plan c.requires.lawful
+returns-clause-apart c = are-apart c.args.plan.now c.args.line.now c.count.ensures.ring c.requires.lawful

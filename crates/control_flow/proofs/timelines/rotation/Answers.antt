@@ -9,7 +9,7 @@ use Rattle.control_flow.proofs.timelines.rotation.Goals as goal
 
 pub rotation_by_calls-requires-clause-latest : goal.rotation_by_calls-requires-clause-latest
 rotation_by_calls-requires-clause-latest c =
-    let times = phase-bounds c.args.plan.now c.args.head.now.phase c.law_of_plans.ensures c.requires.head.phase in
+    let times = phase-bounds c.args.plan.now c.args.head.now.phase c.law_of_rings.ensures c.requires.head.phase in
     omega (arith, c.earliest_end-earliest.ensures.value, c.requires.head.within, times.greatest)
 
 pub returns-clause-value : goal.returns-clause-value

@@ -15,11 +15,11 @@ line c =
     let plan = c.args.plan.now in
     let head = c.args.head.now in
     subst (IsLineFrom plan head c.args.until) (sym (made c))
-    (turned-line plan (stops_at plan c.args.calls.now) c.law_of_plans.ensures (passes-called plan c.args.calls.now) head c.args.to c.args.until c.requires.head c.requires.reach
+    (turned-line plan (stops_at plan c.args.calls.now) c.law_of_rings.ensures (passes-called plan c.args.calls.now) head c.args.to c.args.until c.requires.head c.requires.reach
     (omega (arith, c.requires.earliest)) c.requires.latest (omega (arith, c.requires.earliest)))
 
 pub from_rows-requires : goal.from_rows-requires
-from_rows-requires c = order-lawful c.args.plan.now _ c.law_of_plans.ensures (line c).lawful
+from_rows-requires c = order-lawful c.args.plan.now _ c.law_of_rings.ensures (line c).lawful
 
 value : (c : goal.After-from_rows) → c.from_rows.result ≡ turned c.args.plan.now (stops_at c.args.plan.now c.args.calls.now) c.args.head.now c.args.to c.args.until
 value c =
@@ -31,7 +31,7 @@ of-head c =
     let plan = c.args.plan.now in
     let head = c.args.head.now in
     subst (IsLineFrom plan head c.args.until) (sym (value c))
-    (turned-line plan (stops_at plan c.args.calls.now) c.law_of_plans.ensures (passes-called plan c.args.calls.now) head c.args.to c.args.until c.requires.head c.requires.reach
+    (turned-line plan (stops_at plan c.args.calls.now) c.law_of_rings.ensures (passes-called plan c.args.calls.now) head c.args.to c.args.until c.requires.head c.requires.reach
     (omega (arith, c.requires.earliest)) c.requires.latest (omega (arith, c.requires.earliest)))
 
 pub returns-clause-value : goal.returns-clause-value
@@ -49,7 +49,7 @@ returns-clause-end c = (of-head c).end
 pub returns-clause-begins_by : goal.returns-clause-begins_by
 returns-clause-begins_by c = λ n since last.
     let plan = c.args.plan.now in
-    subst (BeginBy n) (sym (value c)) (turned-by plan (stops_at plan c.args.calls.now) c.law_of_plans.ensures (passes-called plan c.args.calls.now) c.args.head.now c.args.to c.args.until n c.requires.head.phase since last)
+    subst (BeginBy n) (sym (value c)) (turned-by plan (stops_at plan c.args.calls.now) c.law_of_rings.ensures (passes-called plan c.args.calls.now) c.args.head.now c.args.to c.args.until n c.requires.head.phase since last)
 
 pub returns-clause-apart : goal.returns-clause-apart
-returns-clause-apart c = are-apart c.args.plan.now _ c.law_of_plans.ensures (of-head c).lawful
+returns-clause-apart c = are-apart c.args.plan.now _ c.law_of_rings.ensures (of-head c).lawful

@@ -31,15 +31,15 @@ pub leave-requires-clause-begin : goal.leave-requires-clause-begin
 leave-requires-clause-begin c =
     let l = c.loop-index in
     let next = next-serving c.args.plan.now l.current c.args.phases.now c.args.served.now l.index c.loop-index-test.true l.invariant.servings in
-    (IsServingOf-keeps c.args.plan.now l.current _ _ c.law_of_plans.ensures l.invariant.head next.one).anew c.if-not-next.true
+    (IsServingOf-keeps c.args.plan.now l.current _ _ c.law_of_rings.ensures l.invariant.head next.one).anew c.if-not-next.true
 
 pub loop-index-preserved : goal.loop-index-preserved
 loop-index-preserved c =
     let l = c.loop-index in
     let plan = c.args.plan.now in
     let next = next-serving plan l.current c.args.phases.now c.args.served.now l.index c.loop-index-test.true l.invariant.servings in
-    let keeps = IsServingOf-keeps plan l.current _ _ c.law_of_plans.ensures l.invariant.head next.one in
-    let head = IsServingOf-head plan l.current _ _ c.law_of_plans.ensures l.invariant.head next.one in
+    let keeps = IsServingOf-keeps plan l.current _ _ c.law_of_rings.ensures l.invariant.head next.one in
+    let head = IsServingOf-head plan l.current _ _ c.law_of_rings.ensures l.invariant.head next.one in
     elim c.if-not-next.branch [
       | then-not-next+in_ok-leave w ↦ record {
         rows = line-left plan l.current c.args.phases.now c.args.served.now l.index c.args.until l.rows.items _ _ c.loop-index-test.true next.below w.if-not-next.true l.invariant.rows
@@ -64,10 +64,10 @@ made c =
     ∙ line-over c.args.plan.now l.current c.phase.result.now c.args.phases.now c.args.served.now l.index c.args.until l.rows.items _ c.loop-index-test.false c.phase.ensures.value l.invariant.rows
 
 made-lawful : (c : goal.In_ok-turn) → IsLawful c.args.plan.now c.turn.new.rows.items
-made-lawful c = rw (made c) ((line_of-line c.args.plan.now c.args.phases.now c.args.served.now c.args.head.now c.args.until c.law_of_plans.ensures c.requires.head c.requires.reach c.requires.servings).lawful)
+made-lawful c = rw (made c) ((line_of-line c.args.plan.now c.args.phases.now c.args.served.now c.args.head.now c.args.until c.law_of_rings.ensures c.requires.head c.requires.reach c.requires.servings).lawful)
 
 pub from_rows-requires : goal.from_rows-requires
-from_rows-requires c = order-lawful c.args.plan.now _ c.law_of_plans.ensures (made-lawful c)
+from_rows-requires c = order-lawful c.args.plan.now _ c.law_of_rings.ensures (made-lawful c)
 
 value : (c : goal.After-from_rows) → c.from_rows.result ≡ line_of c.args.plan.now c.args.head.now c.args.phases.now c.args.served.now c.args.until
 value c =
@@ -78,7 +78,7 @@ value c =
 
 line : (c : goal.After-from_rows) → IsLineFrom c.args.plan.now c.args.head.now c.args.until c.from_rows.result
 line c =
-    let facts = line_of-line c.args.plan.now c.args.phases.now c.args.served.now c.args.head.now c.args.until c.law_of_plans.ensures c.requires.head c.requires.reach c.requires.servings in
+    let facts = line_of-line c.args.plan.now c.args.phases.now c.args.served.now c.args.head.now c.args.until c.law_of_rings.ensures c.requires.head c.requires.reach c.requires.servings in
     subst (IsLineFrom c.args.plan.now c.args.head.now c.args.until) (sym (value c)) facts
 
 pub returns-clause-value : goal.returns-clause-value
@@ -86,7 +86,7 @@ returns-clause-value c = value c
 
 pub returns-clause-greens : goal.returns-clause-greens
 returns-clause-greens c =
-    let facts = line_of-greens c.args.plan.now c.args.phases.now c.args.served.now c.args.head.now c.args.until c.law_of_plans.ensures c.requires.head c.requires.reach c.requires.servings in
+    let facts = line_of-greens c.args.plan.now c.args.phases.now c.args.served.now c.args.head.now c.args.until c.law_of_rings.ensures c.requires.head c.requires.reach c.requires.servings in
     subst (λ (rows : List Green). HasGreens rows c.args.phases.now c.args.served.now) (sym (value c)) facts
 
 pub returns-clause-lawful : goal.returns-clause-lawful
@@ -100,8 +100,8 @@ returns-clause-end c = (line c).end
 
 pub returns-clause-begins_by : goal.returns-clause-begins_by
 returns-clause-begins_by c = λ n since last greens.
-    let facts = line_of-by c.args.plan.now c.args.phases.now c.args.served.now c.args.head.now c.args.until n c.law_of_plans.ensures c.requires.head c.requires.servings since last greens in
+    let facts = line_of-by c.args.plan.now c.args.phases.now c.args.served.now c.args.head.now c.args.until n c.law_of_rings.ensures c.requires.head c.requires.servings since last greens in
     subst (BeginBy n) (sym (value c)) facts
 
 pub returns-clause-apart : goal.returns-clause-apart
-returns-clause-apart c = are-apart c.args.plan.now _ c.law_of_plans.ensures (line c).lawful
+returns-clause-apart c = are-apart c.args.plan.now _ c.law_of_rings.ensures (line c).lawful
