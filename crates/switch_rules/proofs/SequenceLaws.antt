@@ -6,7 +6,7 @@ use Rattle.std.proofs.lemmas.List.{get_or_past}
 use Rattle.std.proofs.lemmas.Option.{slice_get_within, get_or_from_slice_get, same_Some, cond_some}
 use Rattle.foundation.proofs.OptionLaws.{option-cases}
 use Rattle.foundation.proofs.ResultLaws.{result-cases}
-use Rattle.phase_plan.specs.Phases.{IsPlan}
+use Rattle.phase_plan.specs.Phases.{IsRing}
 use Rattle.phase_plan.specs.declared.Phase.{Phase}
 use Rattle.phase_plan.proofs.RingLaws.{phase-bounds}
 use Rattle.switch_rules.specs.Orders.{one_less}
@@ -65,7 +65,7 @@ next-within P lists left k c all e =
     (listed, subst P (get_or_from_slice_get list index c c e) (all k [] listed index c inside))
 
 -- the servings of a sequence that is timed are those of the next clusters
-pub timed-next : (plan : List Phase) (lists : List (List Cluster)) → IsPlan plan → length lists ≡ length plan → All (All IsCluster) lists → (ks left : List ℕ) (head : Head) (t : List Served × Head) → IsHead plan head
+pub timed-next : (plan : List Phase) (lists : List (List Cluster)) → IsRing plan → length lists ≡ length plan → All (All IsCluster) lists → (ks left : List ℕ) (head : Head) (t : List Served × Head) → IsHead plan head
     → timed_from plan lists left head ks ≡ Some t → AreNextServings plan lists left head ks t.0
 timed-next plan lists p each bounds [] left head t h e =
     let over : ([], head) ≡ t = (cond_some (sum left == 0) ([], head) t e).1 in
@@ -83,7 +83,7 @@ timed-next plan lists p each bounds (k ∷ ks) left head t h e = timed-begins pl
     subst (λ (r : List Served × Head). AreNextServings plan lists left head (k ∷ ks) r.0) (sym same) (one, others))
 
 -- the same of a list of what the sequence serves
-pub listed-next : (plan : List Phase) (lists : List (List Cluster)) → IsPlan plan → length lists ≡ length plan → All (All IsCluster) lists → (ks left : List ℕ) (head : Head) (list : List Served) → IsHead plan head
+pub listed-next : (plan : List Phase) (lists : List (List Cluster)) → IsRing plan → length lists ≡ length plan → All (All IsCluster) lists → (ks left : List ℕ) (head : Head) (list : List Served) → IsHead plan head
     → option_map (λ t. t.0) (timed_from plan lists left head ks) ≡ Some list → AreNextServings plan lists left head ks list
 listed-next plan lists p each bounds ks left head list h e =
     option-cases (timed_from plan lists left head ks)
