@@ -1,10 +1,10 @@
 -- The numbers of a draft within its bounds.
-use Rattle.std.proofs.Common.{◌≡◌, ℕ, ◌<◌, ◌≤◌, List, [], ◌∷◌, length, get_or, All, Option, Some, None, IfSome, refl, ◌∙◌, sym, subst, arith}
+use Rattle.std.proofs.Common.{◌≡◌, ℕ, ◌<◌, ◌≤◌, false, List, [], ◌∷◌, length, get_or, All, Option, Some, None, IfSome, refl, ◌∙◌, sym, subst, arith}
 use Rattle.std.specs.Bool.{⊤}
 use Rattle.std.proofs.lemmas.List.{length-map, get_or-map, get_or_default}
 use Rattle.std.proofs.lemmas.List.Elements.{All-map, All-weaker}
 use Rattle.std.proofs.lemmas.Option.{same_Some}
-use Rattle.phase_plan.specs.Phases.{IsPlan}
+use Rattle.phase_plan.specs.Phases.{IsRing}
 use Rattle.foundation.specs.Options.{each}
 use Rattle.foundation.proofs.OptionLaws.{bind-some}
 use Rattle.foundation.proofs.EachLaws.{each-length, each-at, each-All}
@@ -21,7 +21,7 @@ use Rattle.net_parts.specs.Bounds.{IsName, IsBounded, IsBoundedNode, IsBoundedPh
 use Rattle.net_parts.specs.Numbers.{Net, no_link, AreDistinct, number_of, number_if, yield_names, yield_sat, phase_of, plan_of, phases_of, also_of, link_of, turn_of, turns_of, yields_of, conflict_of, node_names, link_names, numbered}
 use Rattle.net_parts.specs.Outline.{IsOutline, IsLink, AreTurns, ArePhaseLinks, IsYieldSat, phases_at, also_at, plan_at, link_at, yields_at}
 use Rattle.net_parts.proofs.DraftParts.{IsNumbered, numbered-parts, number_of-within, number_if-within, number_of-own}
-use Rattle.net_build.proofs.Plans.{IsPlan-from_bounds}
+use Rattle.net_build.proofs.Plans.{IsRing-from_bounds, count-not_one}
 
 anything : {X : Type 0} (xs : List X) → All (λ _. ⊤) xs
 anything xs k d h = tt
@@ -123,7 +123,7 @@ conflict-bounds links x c is =
     rw (← same_Some _ _ last) (number_of-within links x.a a first, number_of-within links x.b b second)
 
 abbrev no_node : DraftNode
-no_node = record { name = []; phases = [] }
+no_node = record { name = []; phases = []; free_ring = false }
 
 abbrev no_draft_link : DraftLink
 no_draft_link = record { name = []; from = None; to = None; travel = 0; sat = 0; weight = 0; yields = None; walk = None; turns = [] }
@@ -176,7 +176,7 @@ module _ (d : Draft) (net : Net) (bounds : IsBounded d) (nodes_differ : AreDisti
     link_names = rw is.names (All-map IsName (λ l. l.name) d.links (All-weaker IsBoundedLink (λ l. IsName l.name) (λ l ok. ok.own.name) d.links bounds.links));
     links_differ = rw is.names links_differ;
     plan_count = rw (is.plans, length-map) (sym node_total);
-    plans = rw is.plans (All-map IsPlan plan_of d.nodes (All-weaker IsBoundedNode (λ n. IsPlan (plan_of n)) (λ n ok. IsPlan-from_bounds n.phases ok.own.count.0 ok.own.count.1 ok.own.ring ok.phases) d.nodes bounds.nodes));
+    plans = rw is.plans (All-map IsRing plan_of d.nodes (All-weaker IsBoundedNode (λ n. IsRing (plan_of n)) (λ n ok. IsRing-from_bounds n.phases ok.own.count.0 ok.own.count.1 (count-not_one n.free_ring _ ok.own.ring) ok.phases) d.nodes bounds.nodes));
     phases_count = each-length (phases_of (link_names d)) d.nodes net.phase_links is.phase_links ∙ sym node_total;
     phase_counts = outline-phases;
     phase_links = rw is.names (each-All (phases_of (link_names d)) IsBoundedNode (All (ArePhaseLinks (length (link_names d)))) (phases-bounds (link_names d)) d.nodes net.phase_links bounds.nodes is.phase_links);

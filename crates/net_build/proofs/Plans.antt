@@ -1,11 +1,11 @@
--- Phases within their bounds are a plan.
-use Rattle.std.proofs.Common.{◌≡◌, ◌≤◌, cond, List, [], ◌∷◌, length, map, count_by, All, refl, arith}
+-- Phases within their bounds are those of a ring.
+use Rattle.std.proofs.Common.{◌≡◌, ◌≢◌, ℕ, ◌≤◌, Bool, cond, sym, ◌∙◌, inl, inr, List, [], ◌∷◌, length, map, count_by, All, refl, arith}
 use Rattle.std.proofs.lemmas.List.{length-map}
 use Rattle.std.proofs.lemmas.List.Sums.{sum_by-cons}
 use Rattle.std.proofs.lemmas.List.Elements.{All-map}
-use Rattle.phase_plan.specs.Phases.{IsPhase, IsPlan, is_unmarked}
+use Rattle.phase_plan.specs.Phases.{IsPhase, IsRing, is_unmarked}
 use Rattle.net_parts.specs.declared.drafts.DraftPhase.{DraftPhase}
-use Rattle.net_parts.specs.Bounds.{IsBoundedPhase}
+use Rattle.net_parts.specs.Bounds.{IsBoundedPhase, IsUnmarkedCount}
 
 unmarked-same : (phases : List DraftPhase) → count_by is_unmarked (map (λ p. p.phase) phases) ≡ count_by (λ p. is_unmarked p.phase) phases
 unmarked-same [] = refl
@@ -17,9 +17,14 @@ unmarked-same (p ∷ phases) = omega (
 )
 
 -- the phases of a node of a draft
-pub IsPlan-from_bounds : (phases : List DraftPhase) → 2 ≤ length phases → length phases ≤ 4 → 2 ≤ count_by (λ p. is_unmarked p.phase) phases → All IsBoundedPhase phases → IsPlan (map (λ p. p.phase) phases)
-IsPlan-from_bounds phases some few ring bounds = record {
+pub IsRing-from_bounds : (phases : List DraftPhase) → 2 ≤ length phases → length phases ≤ 4 → count_by (λ p. is_unmarked p.phase) phases ≢ 1 → All IsBoundedPhase phases → IsRing (map (λ p. p.phase) phases)
+IsRing-from_bounds phases some few ring bounds = record {
   count = (simp length-map some, simp length-map few);
-  ring = omega (arith, unmarked-same phases, ring);
+  ring = λ one. ring (sym (unmarked-same phases) ∙ one);
   phases = All-map IsPhase (λ p. p.phase) phases (λ k d h. (bounds k d h).phase);
 }
+
+-- a count that a ring may have is not one
+pub count-not_one : (free_ring : Bool) (count : ℕ) → IsUnmarkedCount free_ring count → count ≢ 1
+count-not_one free_ring count (inl many) = λ one. omega (arith, many, one)
+count-not_one free_ring count (inr none) = λ one. omega (arith, none.1, one)

@@ -5,7 +5,7 @@ ghost use Rattle.foundation.specs.Firsts.{IsFirstAt, IsFirstNot, FromOne};
 ghost use Rattle.phase_plan.specs.Phases.{is_unmarked};
 ghost use Rattle.net_build.specs.Outcome.{Checks, HasOptions};
 ghost use Rattle.net_parts.specs.FirstFaults.{IsNodeFault, IsLinkFault, FailsBounds, Refuses};
-ghost use Rattle.net_parts.specs.Bounds.{IsNameByte, IsName, IsActStep, IsRun, HasCounts, HasNodeBounds, HasYieldBounds, HasWalkBounds, HasLinkBounds, IsBoundedPhase, IsBoundedNode, IsBoundedTurn, IsBoundedLink, IsBounded};
+ghost use Rattle.net_parts.specs.Bounds.{IsNameByte, IsName, IsActStep, IsRun, HasCounts, IsUnmarkedCount, HasNodeBounds, HasYieldBounds, HasWalkBounds, HasLinkBounds, IsBoundedPhase, IsBoundedNode, IsBoundedTurn, IsBoundedLink, IsBounded};
 
 use net_parts::{
     Draft, DraftLink, DraftNode, DraftPhase, DraftTurn, DraftYield, NetFault, Place, Run, Section,
@@ -103,13 +103,21 @@ fn check_node(node: &DraftNode, item: u32) -> Result<(), NetFault>
     check_phases(node.phases.as_slice(), item)
 }
 
-/// Whether the name and the number of phases of a node are as they may be, and at least two of them are unmarked.
+/// Whether the name and the number of phases of a node are as they may be, and how many of them are unmarked.
 fn has_node_bounds(node: &DraftNode) -> bool
     ensures { IsTrue result ↔ HasNodeBounds node.now }
 {
+    let unmarked = count_unmarked(node.phases.as_slice());
     is_name(node.name.as_str())
         && (2..=4).contains(&node.phases.len())
-        && count_unmarked(node.phases.as_slice()) >= 2
+        && is_unmarked_count(node.free_ring, unmarked)
+}
+
+/// Whether so many phases of a ring may be unmarked: two or more, and none where the ring may be free.
+fn is_unmarked_count(free_ring: bool, count: usize) -> bool
+    ensures { IsTrue result ↔ IsUnmarkedCount free_ring count }
+{
+    count >= 2 || free_ring && count == 0
 }
 
 /// How many of the phases are unmarked.

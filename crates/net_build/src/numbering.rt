@@ -1,5 +1,5 @@
 //! Numbers for the names of a draft.
-ghost use Rattle.std.specs.Prelude.{◌≡◌, ◌≤◌, ◌<◌, [], Some, IfOk, IfErr, IfSome, OnOk, All, Contains, length, map, count_by};
+ghost use Rattle.std.specs.Prelude.{◌≡◌, ◌≢◌, ◌≤◌, ◌<◌, [], Some, IfOk, IfErr, IfSome, OnOk, All, Contains, length, map, count_by};
 ghost use Rattle.net_parts.specs.Limits.{most_links};
 ghost use Rattle.foundation.specs.Firsts.{IsFirstAt, IsFirstNot, FromOne};
 ghost use Rattle.foundation.specs.Options.{each};
@@ -101,7 +101,8 @@ fn phases_and_lists(
     requires bounds { IsBounded draft.now }
     requires nodes { nodes.now ≡ spec.node_names draft.now }
     requires links { links.now ≡ spec.link_names draft.now }
-    ensures { Makes (λ made. net_with draft.now made.0.serves.items made.0.also.items made.1) result (spec.numbered draft.now)
+    ensures { Makes (λ made. net_with draft.now made.0.serves.items made.0.also.items made.1)
+        result (spec.numbered draft.now)
         (λ place. IsUnknownFault draft.now place.part place.item place.sub) }
 {
     let greens = greens(alloc, links, draft.nodes.as_slice())?;
@@ -118,8 +119,10 @@ fn phases_and_lists(
 /// The links with what each has, the conflicts and the plans, in this order.
 fn lists_by_names(alloc: Global, names: &Tables, draft: &Draft) -> Result<Lists, NetFault>
     requires bounds { IsBounded draft.now }
-    requires tables { AreTables draft.now names.now.nodes.now names.now.links.now names.now.phase_links.now names.now.also_links.now }
-    ensures { Makes (λ lists. net_with draft.now names.now.phase_links.now names.now.also_links.now lists) result (spec.numbered draft.now)
+    requires tables { AreTables draft.now names.now.nodes.now names.now.links.now
+        names.now.phase_links.now names.now.also_links.now }
+    ensures { Makes (λ lists. net_with draft.now names.now.phase_links.now names.now.also_links.now lists)
+        result (spec.numbered draft.now)
         (λ place. IsUnknownFault draft.now place.part place.item place.sub) }
 {
     let roads = roads(alloc, names, draft.links.as_slice())?;
@@ -440,11 +443,11 @@ fn plans(alloc: Global, nodes: &[DraftNode]) -> Result<Vec<PhasePlan>, AllocErro
 fn plan(alloc: Global, phases: &[DraftPhase]) -> Result<PhasePlan, AllocError>
     requires some { 2 ≤ length phases.now }
     requires few { length phases.now ≤ 4 }
-    requires ring { 2 ≤ count_by (λ p. is_unmarked p.phase) phases.now }
+    requires ring { count_by (λ p. is_unmarked p.phase) phases.now ≢ 1 }
     requires bounds { All IsBoundedPhase phases.now }
     ensures { IfOk result (λ plan. plan ≡ map (λ p. p.phase) phases.now) }
 {
-    match PhasePlan::new(times(alloc, phases)?) {
+    match PhasePlan::new_or_free(times(alloc, phases)?) {
         Ok(plan) => Ok(plan),
         Err(_) => unreachable!(),
     }
