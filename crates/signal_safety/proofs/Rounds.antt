@@ -14,7 +14,7 @@ use Rattle.control_flow.proofs.RowLaws.{row_after-some}
 use Rattle.control_flow.proofs.SpliceLaws.{continued, head_in-by, head_in-since}
 use Rattle.net_parts.specs.Numbers.{Net}
 use Rattle.net_parts.specs.Outline.{plan_at}
-use Rattle.phase_plan.specs.Phases.{IsPlan}
+use Rattle.phase_plan.specs.Phases.{IsRing}
 use Rattle.phase_plan.specs.declared.Phase.{Phase}
 use Rattle.road_net.specs.Network.{IsNetwork}
 use Rattle.switch_rules.specs.Serving.{IsHead}
@@ -58,7 +58,7 @@ pub record IsNext (plan : List Phase) (head : Head) (rows : List Green) : Type 0
   pub line : IsLine plan rows
   pub goes : GoesOn head rows
 
-module _ (plan : List Phase) (head : Head) (until : ℕ) (p : IsPlan plan) (h : IsSoonHead plan head) (soon : until + 20 ≤ 100000) where
+module _ (plan : List Phase) (head : Head) (until : ℕ) (p : IsRing plan) (h : IsSoonHead plan head) (soon : until + 20 ≤ 100000) where
   -- the rows of servings, and those of a turn of the ring
   pub line-next : (phases : List ℕ) (served : List Served) → AreServings plan head phases served → All (λ (s : Served). s.green ≤ 100000) served → IsNext plan head (line_of plan head phases served until)
   line-next phases served are greens =
@@ -76,7 +76,7 @@ pub record KeepsLine (plan : List Phase) (old : List Green) (now : ℕ) (rows : 
   pub past : (second : ℕ) → second < now → sign_at rows second ≡ sign_at old second
 
 -- it does where it splices rows with which the line may go on
-pub spliced-keeps : (plan : List Phase) (old : List Green) (now : ℕ) (head : Head) (next : List Green) → IsPlan plan → IsLine plan old → head_at plan old now ≡ Some head → IsNext plan head next → KeepsLine plan old now (spliced old next)
+pub spliced-keeps : (plan : List Phase) (old : List Green) (now : ℕ) (head : Head) (next : List Green) → IsRing plan → IsLine plan old → head_at plan old now ≡ Some head → IsNext plan head next → KeepsLine plan old now (spliced old next)
 spliced-keeps plan old now head next p line at goes =
     let c : IsContinued plan old now next (spliced old next) = continued plan old now head next p line.lawful at goes.line.lawful goes.goes in
     record { line = record { lawful = c.lawful; begins = c.begins_by 100000 line.begins goes.line.begins }; past = c.past }

@@ -11,7 +11,7 @@ use Rattle.control_flow.proofs.ApartLaws.{are-apart}
 use Rattle.control_flow.proofs.OrderLaws.{green-length}
 use Rattle.net_parts.specs.Numbers.{Net}
 use Rattle.net_parts.specs.Outline.{is_green_in, link_at, plan_at}
-use Rattle.phase_plan.specs.Phases.{IsPlan, phase_at}
+use Rattle.phase_plan.specs.Phases.{IsRing, phase_at}
 use Rattle.phase_plan.specs.declared.Phase.{Phase}
 use Rattle.road_net.specs.Joins.{AreNeverBoth, IsConflict}
 use Rattle.road_net.specs.Network.{IsNetwork}
@@ -19,7 +19,7 @@ use Rattle.signal_safety.specs.Safe.{IsSafe}
 use Rattle.signal_safety.specs.Rows.{AreRowsApart, FollowsRows, IsGreenOf, times_of}
 use Rattle.signal_safety.proofs.Lines.{conflict-inside, conflict-node, plan-is}
 
-module _ (net : Net) (lines : ℕ → List Green) (node : ℕ) (p : IsPlan (plan_at net node)) (lawful : IsLawful (plan_at net node) (lines node)) where
+module _ (net : Net) (lines : ℕ → List Green) (node : ℕ) (p : IsRing (plan_at net node)) (lawful : IsLawful (plan_at net node) (lines node)) where
   of-node : (link : ℕ) (row : Green) → (link_at net link).to ≡ Some node → IsGreenOf net lines link row → Contains (lines node) row
   of-node link row to green = subst (λ (o : Option ℕ). MatchOption o ⊥ (λ n. Contains (lines n) row)) to green.ends
 
