@@ -1,14 +1,13 @@
 -- Rows in order: what comes later, and what a search by halves finds.
-use Rattle.std.proofs.Common.{◌≡◌, ℕ, zero, suc, ◌+◌, ◌-◌, ◌<◌, ◌≤◌, Bool, true, false, cond, leb, ltb, List, [], ◌∷◌, ◌++◌, length, take, Option, Some, None, Result, Ok, Err, OnOk, OnErr, refl, sym, ap, subst, ◌∙◌, inl, inr, arith}
+use Rattle.std.proofs.Common.{◌≡◌, ℕ, zero, suc, ◌+◌, ◌-◌, ◌<◌, ◌≤◌, Bool, true, false, cond, leb, ltb, List, [], ◌∷◌, ◌++◌, length, take, All, Option, Some, None, Result, Ok, Err, OnOk, OnErr, refl, sym, ap, subst, ◌∙◌, inl, inr, arith}
 use Rattle.std.specs.Prelude.{find, slice_get}
 use Rattle.std.specs.Option.{option_and_then}
 use Rattle.std.specs.List.Sorted.{IsNonDecreasingBy}
 use Rattle.std.proofs.lemmas.Bool.{cases_eq, cases_lt, cond_below, cond_above, and_from, and_left, and_parts, and_right, leb-true, ltb-true, lt-ltb, le-leb, lt-leb, le-ltb}
 use Rattle.std.proofs.lemmas.List.Sorted.{IsNonDecreasingBy-from_default}
 use Rattle.std.proofs.lemmas.List.Elements.{All-cons, All-head, All-tail, All-weaker, All-get_or}
-use Rattle.phase_plan.specs.Phases.{IsRing}
+use Rattle.phase_plan.specs.Phases.{IsPhase, IsRing, no_phase}
 use Rattle.phase_plan.specs.declared.Phase.{Phase}
-use Rattle.phase_plan.proofs.RingLaws.{phase-bounds}
 use Rattle.control_flow.specs.declared.greens.Green.{Green}
 use Rattle.control_flow.specs.Greens.{no_green, row_at, IsInOrder, IsGreen, IsLawful, HasRow, Joins, covers, green_at, row_after, rows_before, spliced}
 
@@ -44,8 +43,11 @@ pub order-next : (row next : Green) (rows : List Green) → IsInOrder (row ∷ n
 order-next row next rows o = o.order 0 (omega arith)
 
 -- a green lasts a second at least
+pub green-lasts : (plan : List Phase) (row : Green) → All IsPhase plan → IsGreen plan row → row.from + 1 ≤ row.to
+green-lasts plan row all green = let times = All-get_or IsPhase plan row.phase no_phase green.phase all in omega (arith, times.least, green.least)
+
 pub green-length : (plan : List Phase) (row : Green) → IsRing plan → IsGreen plan row → row.from + 1 ≤ row.to
-green-length plan row p green = let times = phase-bounds plan row.phase p green.phase in omega (arith, times.least, green.least)
+green-length plan row p green = green-lasts plan row p.phases green
 
 -- lawful rows are in order
 pub order-lawful : (plan : List Phase) (rows : List Green) → IsRing plan → IsLawful plan rows → IsInOrder rows

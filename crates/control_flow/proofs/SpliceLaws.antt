@@ -4,7 +4,7 @@ use Rattle.std.specs.Option.{option_map}
 use Rattle.std.specs.List.{list_any}
 use Rattle.std.proofs.lemmas.Bool.{cases_lt, cond_below, cond_above, cond_both, and_left, and_right, lt-ltb, lt-leb, leb-false}
 use Rattle.std.proofs.lemmas.List.Elements.{All-nil, All-cons, All-head, All-tail, All-append, All-weaker}
-use Rattle.phase_plan.specs.Phases.{IsMarkedAt, IsRing, between, phase_at}
+use Rattle.phase_plan.specs.Phases.{IsMarkedAt, IsPhase, IsRing, between, phase_at}
 use Rattle.phase_plan.specs.declared.Phase.{Phase}
 use Rattle.switch_rules.specs.declared.Head.{Head}
 use Rattle.control_flow.specs.declared.greens.Green.{Green}
@@ -12,7 +12,7 @@ use Rattle.control_flow.specs.declared.greens.Colour.TheVariants as colours
 use Rattle.control_flow.specs.Greens.{row_at, IsGreen, Follows, IsLawful, GoesOn, BeginBy, IsContinued, Joins, covers, covers_yellow, is_green, is_yellow, colour_at, row_after, head_in, head_at, rows_before, spliced}
 use Rattle.control_flow.specs.Signs.{change_from, sign_after}
 use Rattle.control_flow.specs.declared.greens.Sign.TheVariants as signs
-use Rattle.control_flow.proofs.OrderLaws.{green-length, row_after-has}
+use Rattle.control_flow.proofs.OrderLaws.{green-lasts, row_after-has}
 use Rattle.control_flow.proofs.RowLaws.{lawful-cons, lawful-tail, lawful-first, lawful-next, end_of-append, row_after-some}
 use Rattle.control_flow.proofs.SignLaws.{before-row, within-row, same-row}
 
@@ -85,16 +85,16 @@ kept-more : (r first : Green) (rs : List Green) → r.from < first.from → rows
 kept-more r first rs h = sym (cond_below r.from first.from (r ∷ rows_before rs first.from) [] h)
 
 -- a row that has ended by now stays: the row after now is one of the others, and what comes in its place begins later
-past-row : (plan : List Phase) (r : Green) (rs : List Green) (now : ℕ) (row first : Green) → IsRing plan → IsLawful plan (r ∷ rs) → row_after (r ∷ rs) now ≡ Some row → Replaces first row → r.to ≤ now
+past-row : (plan : List Phase) (r : Green) (rs : List Green) (now : ℕ) (row first : Green) → All IsPhase plan → IsLawful plan (r ∷ rs) → row_after (r ∷ rs) now ≡ Some row → Replaces first row → r.to ≤ now
     → (row_after rs now ≡ Some row) × (r.from < first.from)
 past-row plan r rs now row first p lawful e same h =
     let found = cond_above now r.to (Some r) (row_after rs now) (row_after rs now) h refl ∙ e in
     let later = begins-later plan r rs now row lawful found in
-    let long = green-length plan r p (lawful-first plan r rs lawful) in
+    let long = green-lasts plan r p (lawful-first plan r rs lawful) in
     (found, omega (arith, same.from, later, long))
 
 -- the first row of what is kept, or else of what comes after it, is where the old one is
-first-of-splice : (plan : List Phase) (before : Green) (old : List Green) (now : ℕ) (row first : Green) (rest : List Green) → IsRing plan → IsLawful plan (before ∷ old) → row_after old now ≡ Some row → Replaces first row
+first-of-splice : (plan : List Phase) (before : Green) (old : List Green) (now : ℕ) (row first : Green) (rest : List Green) → All IsPhase plan → IsLawful plan (before ∷ old) → row_after old now ≡ Some row → Replaces first row
     → Follows plan before (row_at (rows_before old first.from ++ first ∷ rest) 0)
 first-of-splice plan before [] now row first rest p lawful e same = let impossible : Follows plan before first = cc in impossible
 first-of-splice plan before (r ∷ rs) now row first rest p lawful e same =
@@ -113,7 +113,7 @@ first-of-splice plan before (r ∷ rs) now row first rest p lawful e same =
           rw (kept-more r first rs past.1) follows
     ]
 
-splice-lawful : (plan : List Phase) (old : List Green) (now : ℕ) (row first : Green) (rest : List Green) → IsRing plan → IsLawful plan old → row_after old now ≡ Some row → Replaces first row → IsLawful plan (first ∷ rest)
+splice-lawful : (plan : List Phase) (old : List Green) (now : ℕ) (row first : Green) (rest : List Green) → All IsPhase plan → IsLawful plan old → row_after old now ≡ Some row → Replaces first row → IsLawful plan (first ∷ rest)
     → IsLawful plan (rows_before old first.from ++ first ∷ rest)
 splice-lawful plan [] now row first rest p lawful e same next = next
 splice-lawful plan (r ∷ rs) now row first rest p lawful e same next = elim (cases_lt now r.to) [
@@ -141,7 +141,7 @@ other-row before first r rest rs second same new old = elim (cases_lt second r.f
       ∙ sym (within-row before r rs second begun old)
 ]
 
-splice-signs : (plan : List Phase) (old : List Green) (now : ℕ) (row first : Green) (rest : List Green) → IsRing plan → IsLawful plan old → row_after old now ≡ Some row → Replaces first row → now ≤ first.to
+splice-signs : (plan : List Phase) (old : List Green) (now : ℕ) (row first : Green) (rest : List Green) → All IsPhase plan → IsLawful plan old → row_after old now ≡ Some row → Replaces first row → now ≤ first.to
     → (before : Option ℕ) (second : ℕ) → second < now → sign_after before (rows_before old first.from ++ first ∷ rest) second ≡ sign_after before old second
 splice-signs plan [] now row first rest p lawful e same spent before second past = let impossible : sign_after before (first ∷ rest) second ≡ sign_after before [] second = cc in impossible
 splice-signs plan (r ∷ rs) now row first rest p lawful e same spent before second past = elim (cases_lt now r.to) [
@@ -185,7 +185,7 @@ none-later plan now row first from rows test back spent lawful =
     let more = λ (g : Green) (h : (from.to ≤ g.from) × (from.to ≤ g.to)). back.later g (omega (arith, h.0)) (omega (arith, h.1)) in
     later-any test rows (All-weaker (λ (g : Green). (from.to ≤ g.from) × (from.to ≤ g.to)) (λ (g : Green). test g ≡ false) more rows (all-later plan from rows lawful))
 
-splice-any : (plan : List Phase) (old : List Green) (now : ℕ) (row first : Green) (rest : List Green) (test : Green → Bool) → IsRing plan → IsLawful plan old → row_after old now ≡ Some row → Replaces first row → now ≤ first.to
+splice-any : (plan : List Phase) (old : List Green) (now : ℕ) (row first : Green) (rest : List Green) (test : Green → Bool) → All IsPhase plan → IsLawful plan old → row_after old now ≡ Some row → Replaces first row → now ≤ first.to
     → IsLawful plan (first ∷ rest) → LooksBack now row first test → list_any test (rows_before old first.from ++ first ∷ rest) ≡ list_any test old
 splice-any plan [] now row first rest test p lawful e same spent next back = let impossible : list_any test (first ∷ rest) ≡ list_any test [] = cc in impossible
 splice-any plan (r ∷ rs) now row first rest test p lawful e same spent next back = elim (cases_lt now r.to) [
@@ -217,7 +217,7 @@ yellow-looks-back now row first k yellow second h spent past =
     let none = λ (g : Green) (to : now ≤ g.to). and_right (g.phase == k) (covers_yellow g yellow second) (and_left (leb g.to second) (ltb second (g.to + yellow)) (lt-leb g.to second (omega arith))) in
     record { later = λ g from to. none g to; same = none first spent ∙ sym (none row (omega arith)) }
 
-splice-colours : (plan : List Phase) (old : List Green) (now : ℕ) (row first : Green) (rest : List Green) → IsRing plan → IsLawful plan old → row_after old now ≡ Some row → Replaces first row → now ≤ first.to
+splice-colours : (plan : List Phase) (old : List Green) (now : ℕ) (row first : Green) (rest : List Green) → All IsPhase plan → IsLawful plan old → row_after old now ≡ Some row → Replaces first row → now ≤ first.to
     → IsLawful plan (first ∷ rest) → (k second : ℕ) → second < now → colour_at plan (rows_before old first.from ++ first ∷ rest) k second ≡ colour_at plan old k second
 splice-colours plan old now row first rest p lawful e same spent next k second past =
     let behind = (row_after-some (IsGreen plan) old now row lawful.greens e).1 in
@@ -251,10 +251,10 @@ joins-head plan rows now head (first ∷ rest) e begin =
     }
 
 -- what a continued timeline keeps
-pub continued : (plan : List Phase) (old : List Green) (now : ℕ) (head : Head) (next : List Green) → IsRing plan → IsLawful plan old → head_at plan old now ≡ Some head → IsLawful plan next → GoesOn head next
+pub continued-by : (plan : List Phase) (old : List Green) (now : ℕ) (head : Head) (next : List Green) → All IsPhase plan → IsLawful plan old → head_at plan old now ≡ Some head → IsLawful plan next → GoesOn head next
     → IsContinued plan old now next (spliced old next)
-continued plan old now head [] p lawful e next begin = absurd (omega (arith, begin.some))
-continued plan old now head (first ∷ rest) p lawful e next begin =
+continued-by plan old now head [] p lawful e next begin = absurd (omega (arith, begin.some))
+continued-by plan old now head (first ∷ rest) p lawful e next begin =
     let of = row-of-head plan old now head e in
     let same : Replaces first of.row = record { phase = begin.phase ∙ of.phase; from = begin.begin ∙ of.since } in
     record {
@@ -264,6 +264,10 @@ continued plan old now head (first ∷ rest) p lawful e next begin =
       end = end_of-append (rows_before old first.from) first rest;
       begins_by = λ n a b. All-append (λ (g : Green). g.from ≤ n) (rows_before old first.from) (first ∷ rest) (kept-by old first.from n a) b;
     }
+
+pub continued : (plan : List Phase) (old : List Green) (now : ℕ) (head : Head) (next : List Green) → IsRing plan → IsLawful plan old → head_at plan old now ≡ Some head → IsLawful plan next → GoesOn head next
+    → IsContinued plan old now next (spliced old next)
+continued plan old now head next p = continued-by plan old now head next p.phases
 
 -- the same where the splice was done
 pub answered-continued : {E : Type 0} (r : Result (Unit {0}) E) (plan : List Phase) (old next new : List Green) (now : ℕ) (head : Head) → IsRing plan → IsLawful plan old → head_at plan old now ≡ Some head → IsLawful plan next → GoesOn head next

@@ -1,12 +1,12 @@
 -- The turning of a ring that stops at all unmarked phases, and maybe at others: it is lawful, and ends late enough.
-use Rattle.std.proofs.Common.{◌≡◌, ℕ, zero, suc, ◌+◌, ◌-◌, ◌<◌, ◌≤◌, Bool, true, eqb, cond, ltb, List, [], ◌∷◌, ◌++◌, length, refl, sym, ap, ◌∙◌, arith, append_assoc}
+use Rattle.std.proofs.Common.{◌≡◌, ℕ, zero, suc, ◌+◌, ◌-◌, ◌<◌, ◌≤◌, Bool, true, eqb, cond, ltb, List, [], ◌∷◌, ◌++◌, length, All, refl, sym, ap, ◌∙◌, arith, append_assoc}
 use Rattle.std.proofs.Math.Bool.{or-false}
 use Rattle.std.proofs.lemmas.Bool.{cond_below, cond_above, cond_both, eqb-true, ltb-true, ltb-false, or_parts}
 use Rattle.std.proofs.lemmas.List.{nil_from_length}
-use Rattle.std.proofs.lemmas.List.Elements.{All-nil, All-cons, All-weaker}
-use Rattle.phase_plan.specs.Phases.{IsRing, first_up, is_unmarked_at, phase_at}
+use Rattle.std.proofs.lemmas.List.Elements.{All-nil, All-cons, All-get_or, All-weaker}
+use Rattle.phase_plan.specs.Phases.{IsMarkedAt, IsPhase, IsRing, first_up, no_phase, is_unmarked_at, phase_at}
 use Rattle.phase_plan.specs.declared.Phase.{Phase}
-use Rattle.phase_plan.proofs.RingLaws.{PassesMarked, first-up, passes-marked, phase-bounds}
+use Rattle.phase_plan.proofs.RingLaws.{IsFirstUp, PassesMarked, first-stop, first-up, passes-marked, phase-bounds}
 use Rattle.switch_rules.specs.Serving.{IsHead}
 use Rattle.switch_rules.specs.declared.Head.{Head}
 use Rattle.control_flow.specs.declared.greens.Green.{Green}
@@ -42,31 +42,43 @@ pub record IsLineFrom (plan : List Phase) (head : Head) (until : ℕ) (rows : Li
 alone : (plan : List Phase) (row : Green) → IsGreen plan row → IsLawful plan (row ∷ [])
 alone plan row green = lawful-cons plan row [] green (λ h. absurd (omega arith)) (lawful-nil plan)
 
-module _ (plan : List Phase) (stops : ℕ → Bool) (p : IsRing plan) (passes : PassesMarked plan stops) where
+-- where the phases are in bounds, two at least
+module _ (plan : List Phase) (stops : ℕ → Bool) (all : All IsPhase plan) (two : 2 ≤ length plan) (passes : PassesMarked plan stops) where
+  first-of : (s : ℕ) → s < length plan → IsFirstUp (IsMarkedAt plan) plan s (first_up plan stops s)
+  first-of s h = first-stop (IsMarkedAt plan) plan stops passes s h two
+
   -- a green of the ring after a row
 
-  first-below : (s : ℕ) → s < length plan → first_up plan stops s < length plan
-  first-below s h = (first-up plan stops s p passes h).below
-
-  green_after-green : (s to : ℕ) → s < length plan → IsGreen plan (green_after plan stops s to)
-  green_after-green s to h =
-      let below = first-below s h in
-      let times = phase-bounds plan (first_up plan stops s) p below in
+  green-of : (s to : ℕ) → s < length plan → IsGreen plan (green_after plan stops s to)
+  green-of s to h =
+      let below = (first-of s h).below in
+      let times = All-get_or IsPhase plan (first_up plan stops s) no_phase below all in
       record { phase = below; least = omega arith; greatest = omega (arith, times.greatest) }
-
-  green_after-later : (s to : ℕ) → s < length plan → to + 1 ≤ (green_after plan stops s to).to
-  green_after-later s to h = let times = phase-bounds plan (first_up plan stops s) p (first-below s h) in omega (arith, times.least)
 
   turning-lawful : (until most : ℕ) (row : Green) → IsGreen plan row → IsLawful plan (row ∷ turning plan stops most until row.phase row.to)
   turning-lawful until zero row green = alone plan row green
   turning-lawful until (suc most) row green =
       let next = green_after plan stops row.phase row.to in
-      let later = turning-lawful until most next (green_after-green row.phase row.to green.phase) in
+      let up = first-of row.phase green.phase in
+      let later = turning-lawful until most next (green-of row.phase row.to green.phase) in
       cond_both (ltb until row.to) [] (next ∷ turning plan stops most until next.phase next.to) (λ rows. IsLawful plan (row ∷ rows))
       (λ e. alone plan row green)
-      (λ e.
-      lawful-cons plan row (next ∷ turning plan stops most until next.phase next.to) green (λ h. (let up = first-up plan stops row.phase p passes green.phase in record { passed = up.passed; other = up.other; begins = omega arith }))
-      later)
+      (λ e. lawful-cons plan row (next ∷ turning plan stops most until next.phase next.to) green (λ h. record { passed = up.passed; other = up.other; begins = omega arith }) later)
+
+  -- and of the ring as it turns from a head
+  pub turned-lawful : (head : Head) (to until : ℕ) → head.phase < length plan → head.since + (phase_at plan head.phase).least ≤ to → to ≤ head.since + (phase_at plan head.phase).greatest
+      → IsLawful plan (turned plan stops head to until)
+  turned-lawful head to until phase least greatest =
+      let row : Green = record { phase = head.phase; from = head.since; to = to } in
+      let green : IsGreen plan row = record { phase = phase; least = least; greatest = greatest } in
+      turning-lawful until (until + 1) row green
+
+module _ (plan : List Phase) (stops : ℕ → Bool) (p : IsRing plan) (passes : PassesMarked plan stops) where
+  first-below : (s : ℕ) → s < length plan → first_up plan stops s < length plan
+  first-below s h = (first-up plan stops s p passes h).below
+
+  green_after-later : (s to : ℕ) → s < length plan → to + 1 ≤ (green_after plan stops s to).to
+  green_after-later s to h = let times = phase-bounds plan (first_up plan stops s) p (first-below s h) in omega (arith, times.least)
 
   turning-end : (until most : ℕ) (row : Green) → row.phase < length plan → until + 1 ≤ most + row.to → until < end_of (row ∷ turning plan stops most until row.phase row.to)
   turning-end until zero row h enough = omega arith
@@ -137,9 +149,8 @@ module _ (plan : List Phase) (stops : ℕ → Bool) (p : IsRing plan) (passes : 
       → head.at ≤ to → IsLineFrom plan head until (turned plan stops head to until)
   turned-line head to until h reach least greatest spent =
       let row : Green = record { phase = head.phase; from = head.since; to = to } in
-      let green : IsGreen plan row = record { phase = h.phase; least = least; greatest = greatest } in
       record {
-        lawful = turning-lawful until (until + 1) row green;
+        lawful = turned-lawful plan stops p.phases p.count.0 passes head to until h.phase least greatest;
         begin = record { some = omega arith; phase = refl; begin = refl; spent = spent };
         end = turning-end until (until + 1) row h.phase (omega arith);
       }

@@ -4,6 +4,14 @@ use Rattle.std.specs.List.{list_any, range_with_len}
 use Rattle.phase_plan.specs.Phases.{is_free, phase_at}
 use Rattle.phase_plan.specs.declared.Phase.{Phase}
 
+-- the phase of this number, without a mark where it is one of these
+abbrev pub without_mark : List Phase → (ℕ → Bool) → ℕ → Phase
+without_mark plan these k = record (phase_at plan k) { skip = (phase_at plan k).skip && not (these k) }
+
+-- the phases of a plan, these without their marks
+abbrev pub without_marks : List Phase → (ℕ → Bool) → List Phase
+without_marks plan these = map (without_mark plan these) (range_with_len 0 (length plan))
+
 -- whether any phase of a plan is recalled
 abbrev pub any_recalled : List Phase → (ℕ → Bool) → Bool
 any_recalled plan is_recalled = list_any is_recalled (range_with_len 0 (length plan))
@@ -12,10 +20,6 @@ any_recalled plan is_recalled = list_any is_recalled (range_with_len 0 (length p
 abbrev pub loses_mark : List Phase → (ℕ → Bool) → ℕ → Bool
 loses_mark plan is_recalled k = is_recalled k || (is_free plan && any_recalled plan is_recalled)
 
--- the phase of this number, without a mark where it loses it
-abbrev pub recalled_phase : List Phase → (ℕ → Bool) → ℕ → Phase
-recalled_phase plan is_recalled k = record (phase_at plan k) { skip = (phase_at plan k).skip && not (loses_mark plan is_recalled k) }
-
 -- the plan in which no phase that is recalled has a mark, and in a free ring with such a phase none at all
 abbrev pub recalled : List Phase → (ℕ → Bool) → List Phase
-recalled plan is_recalled = map (recalled_phase plan is_recalled) (range_with_len 0 (length plan))
+recalled plan is_recalled = without_marks plan (loses_mark plan is_recalled)
