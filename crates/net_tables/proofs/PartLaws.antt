@@ -5,7 +5,7 @@ use Rattle.toml.specs.Data.{Data, Members, as_table}
 use Rattle.foundation.specs.Options.{◌>>=◌}
 use Rattle.phase_plan.specs.declared.Phase.{Phase}
 use Rattle.net_tables.specs.Parts.{numbers_at, optional_numbers_at, run_fields, phase_times, phase_fields, link_numbers, link_ends, link_fields}
-use Rattle.net_tables.specs.Table.{PhaseForm, LinkForm, only, run_keys, run_of, has_overlaps, phase_keys, phase_keys_in, phase_form, link_keys, link_keys_in, link_form, number_at, optional_number_at, flag_at, weight_at, text_at, optional_text_at, list_at, optional_list_at, yields_at, walk_at}
+use Rattle.net_tables.specs.Table.{PhaseForm, LinkForm, only, run_keys, run_of, is_third, phase_keys, phase_keys_in, phase_form, link_keys, link_keys_in, link_form, number_at, optional_number_at, flag_at, weight_at, text_at, optional_text_at, list_at, optional_list_at, yields_at, walk_at}
 use Rattle.net_parts.specs.declared.drafts.Run.{Run}
 
 -- two options one after the other, as one
@@ -85,18 +85,18 @@ link-by_fields version d ms inner table is =
     (λ name travel sat weight from to yields walk turns. let form : LinkForm = record { name = name; from = from; to = to; travel = travel; sat = sat; weight = weight; yields = yields; walk = walk; turns = turns } in form))
 
 -- the keys of a phase and of a link, in a file of version 3 and in each other
-pub phase-third : (version : Option ℕ) → has_overlaps version ≡ true → phase_keys_in version ≡ codes "also" ∷ codes "least" ∷ codes "greatest" ∷ codes "yellow" ∷ codes "clear" ∷ codes "loss" ∷ codes "wait" ∷ codes "links" ∷ codes "skip" ∷ []
+pub phase-third : (version : Option ℕ) → is_third version ≡ true → phase_keys_in version ≡ codes "also" ∷ codes "least" ∷ codes "greatest" ∷ codes "yellow" ∷ codes "clear" ∷ codes "loss" ∷ codes "wait" ∷ codes "links" ∷ codes "skip" ∷ []
 unfolding phase_keys_in phase_keys
 phase-third version is = rw is refl
 
-pub phase-other : (version : Option ℕ) → has_overlaps version ≡ false → phase_keys_in version ≡ codes "least" ∷ codes "greatest" ∷ codes "yellow" ∷ codes "clear" ∷ codes "loss" ∷ codes "wait" ∷ codes "links" ∷ codes "skip" ∷ []
+pub phase-other : (version : Option ℕ) → is_third version ≡ false → phase_keys_in version ≡ codes "least" ∷ codes "greatest" ∷ codes "yellow" ∷ codes "clear" ∷ codes "loss" ∷ codes "wait" ∷ codes "links" ∷ codes "skip" ∷ []
 unfolding phase_keys_in phase_keys
 phase-other version is = rw is refl
 
-pub link-third : (version : Option ℕ) → has_overlaps version ≡ true → link_keys_in version ≡ codes "yields" ∷ codes "yield_sat" ∷ codes "walk" ∷ codes "cross" ∷ codes "name" ∷ codes "from" ∷ codes "to" ∷ codes "travel" ∷ codes "sat" ∷ codes "weight" ∷ codes "turn" ∷ []
+pub link-third : (version : Option ℕ) → is_third version ≡ true → link_keys_in version ≡ codes "yields" ∷ codes "yield_sat" ∷ codes "walk" ∷ codes "cross" ∷ codes "name" ∷ codes "from" ∷ codes "to" ∷ codes "travel" ∷ codes "sat" ∷ codes "weight" ∷ codes "turn" ∷ []
 unfolding link_keys_in link_keys
 link-third version is = rw is refl
 
-pub link-other : (version : Option ℕ) → has_overlaps version ≡ false → link_keys_in version ≡ codes "name" ∷ codes "from" ∷ codes "to" ∷ codes "travel" ∷ codes "sat" ∷ codes "weight" ∷ codes "turn" ∷ []
+pub link-other : (version : Option ℕ) → is_third version ≡ false → link_keys_in version ≡ codes "name" ∷ codes "from" ∷ codes "to" ∷ codes "travel" ∷ codes "sat" ∷ codes "weight" ∷ codes "turn" ∷ []
 unfolding link_keys_in link_keys
 link-other version is = rw is refl

@@ -145,10 +145,10 @@ run_of ms = do
   rate ← optional_number_at (codes "rate") ms
   Some (record { step = step; look = look; gap = gap; rounds = rounds; split = split; age = age; hold = hold; recall = recall; act_step = act_step; rate = rate })
 
--- whether a file of this version may name further greens of phases, yields and walks: it says version 3
-abbrev pub has_overlaps : Option ℕ → Bool
-has_overlaps None = false
-has_overlaps (Some version) = version == 3
+-- whether a file says version 3, and so may name further greens of phases, yields and walks, and have free rings
+abbrev pub is_third : Option ℕ → Bool
+is_third None = false
+is_third (Some version) = version == 3
 
 -- the keys that a phase has in every file
 unfoldable pub phase_keys : List (List ℕ)
@@ -156,7 +156,7 @@ phase_keys = codes "least" ∷ codes "greatest" ∷ codes "yellow" ∷ codes "cl
 
 -- the keys of a phase in a file of this version
 unfoldable pub phase_keys_in : Option ℕ → List (List ℕ)
-phase_keys_in version = if has_overlaps version then codes "also" ∷ phase_keys else phase_keys
+phase_keys_in version = if is_third version then codes "also" ∷ phase_keys else phase_keys
 
 -- a phase as it stands in the file, the names of its links not yet read
 pub record PhaseForm : Type 0 where
@@ -202,12 +202,12 @@ node_form d = do
   phases ← list_at (codes "phase") ms
   Some (record { name = name; phases = phases })
 
--- a node with its phases
+-- a node with its phases, whose ring may be free in a file of version 3
 unfoldable pub node_of : Option ℕ → Data → Option DraftNode
 node_of version d = do
   node ← node_form d
   phases ← each (phase_of version) node.phases
-  Some (record { name = node.name; phases = phases })
+  Some (record { name = node.name; phases = phases; free_ring = is_third version })
 
 -- a turn
 unfoldable pub turn_of : Data → Option DraftTurn
@@ -257,7 +257,7 @@ link_keys = codes "name" ∷ codes "from" ∷ codes "to" ∷ codes "travel" ∷ 
 
 -- the keys of a link in a file of this version
 unfoldable pub link_keys_in : Option ℕ → List (List ℕ)
-link_keys_in version = if has_overlaps version then codes "yields" ∷ codes "yield_sat" ∷ codes "walk" ∷ codes "cross" ∷ link_keys else link_keys
+link_keys_in version = if is_third version then codes "yields" ∷ codes "yield_sat" ∷ codes "walk" ∷ codes "cross" ∷ link_keys else link_keys
 
 -- the own form of a link, in a file of this version
 unfoldable pub link_form : Option ℕ → Data → Option LinkForm

@@ -162,9 +162,9 @@ fn phase_times(table: &Table, version: Option<u32>) -> Option<Phase>
     })
 }
 
-/// Whether a file of this version may name further greens of phases, yields and walks.
-fn has_overlaps(version: Option<u32>) -> bool
-    ensures { result ≡ spec.has_overlaps version }
+/// Whether a file of this version may name further greens of phases, yields and walks, and have free rings.
+pub(crate) fn is_third(version: Option<u32>) -> bool
+    ensures { result ≡ spec.is_third version }
 {
     match version {
         Some(version) => version == 3,
@@ -181,7 +181,7 @@ fn only_phase_keys(table: &Table, version: Option<u32>) -> Option<&Table>
     let keys = [
         "also", "least", "greatest", "yellow", "clear", "loss", "wait", "links", "skip",
     ];
-    if has_overlaps(version) {
+    if is_third(version) {
         only(table, &keys)
     } else {
         only(table, &keys[1..])
@@ -331,7 +331,7 @@ fn only_link_keys(table: &Table, version: Option<u32>) -> Option<&Table>
         "weight",
         "turn",
     ];
-    if has_overlaps(version) {
+    if is_third(version) {
         only(table, &keys)
     } else {
         only(table, &keys[4..])

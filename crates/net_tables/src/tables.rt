@@ -12,7 +12,8 @@ ghost use Rattle.net_tables.specs.Table as spec;
 ghost use Rattle.net_tables.specs.Table.{HasKnownVersion};
 
 use crate::forms::{
-    YieldForm, conflict_form, link_form, node_form, phase_form, run_of, top_form, turn_form,
+    YieldForm, conflict_form, is_third, link_form, node_form, phase_form, run_of, top_form,
+    turn_form,
 };
 use foundation::items::Items;
 use foundation::text::Text;
@@ -144,6 +145,7 @@ impl Element for DraftNode {
         Ok(DraftNode {
             name,
             phases: Items::from_vec(phases),
+            free_ring: is_third(spot.version),
         })
     }
 }
