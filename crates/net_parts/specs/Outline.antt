@@ -17,7 +17,7 @@ link_at net l = slice_index_or net.links l no_link
 abbrev pub walk_at : Net → ℕ → Option ℕ
 walk_at net l = option_map (λ walk. walk.seconds) (link_at net l).walk
 
--- the seconds that who has entered such a link needs to be over; 0 where it has no walk
+-- the seconds that who enters a link with a walk needs to be over; 0 where it has no walk
 abbrev pub cross_at : Net → ℕ → ℕ
 cross_at net l = option_map_or (λ walk. walk.cross) (link_at net l).walk 0
 
