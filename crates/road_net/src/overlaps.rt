@@ -42,7 +42,8 @@ fn is_also_at(parts: &Parts, l: u32, n: u32) -> bool
     requires outline { IsOutline (net_of parts.now) }
     requires link { l < length parts.now.link_names }
     requires node { n < length parts.now.node_names }
-    ensures { IsTrue result ↔ ((k : ℕ) → IsTrue (has_link l (also_links_at (net_of parts.now) n k)) → IsFurther (net_of parts.now) l n k) }
+    ensures { IsTrue result ↔ ((k : ℕ) → IsTrue (has_link l (also_links_at (net_of parts.now) n k))
+        → IsFurther (net_of parts.now) l n k) }
 {
     let here = parts.links[l as usize].to == Some(n);
     let serves = parts.phase_links[n as usize].as_slice();
