@@ -1,5 +1,5 @@
 -- How each text goes on after what was read.
-use Rattle.std.proofs.Common.{◌≡◌, ℕ, zero, suc, ◌+◌, ◌^◌, ◌<◌, ◌≤◌, ◌⊎◌, List, [], ◌∷◌, ◌++◌, length, Some, None, refl, sym, ap, subst, ◌∙◌, inl, inr, append_assoc, length-append, arith}
+use Rattle.std.proofs.Common.{◌≡◌, ℕ, zero, suc, ◌+◌, ◌^◌, ◌<◌, ◌≤◌, ◌⊎◌, Bool, List, [], ◌∷◌, ◌++◌, length, Some, None, refl, sym, ap, subst, ◌∙◌, inl, inr, append_assoc, length-append, arith}
 use Rattle.std.specs.Prelude.{codes}
 use Rattle.std.specs.List.{flat_map, AllByRecursion}
 use Rattle.std.proofs.lemmas.Option.{same_Some}
@@ -12,7 +12,7 @@ use Rattle.switch_rules.specs.declared.Head.{Head}
 use Rattle.switch_rules.specs.declared.Cluster.{Cluster}
 use Rattle.instance_form.specs.declared.form.Version.{Version}
 use Rattle.instance_form.specs.Faults.{BeginsFront}
-use Rattle.instance_form.specs.InstanceText.{version_of, first_line, count_line, phase_line, head_line, cluster_line, cluster_lines, instance_text, HasText}
+use Rattle.instance_form.specs.InstanceText.{version_of, first_line, count_line, phase_line, head_line, cluster_line, cluster_lines, whole_text, HasText}
 use Rattle.instance_form.specs.Lines.{version_line_at, phase_line_at, cluster_line_at}
 use Rattle.instance_form.specs.Reading.{opening_at, phases_at, lists_at}
 use Rattle.instance_form.proofs.LineLaws.{IsSaidPhase, IsSaidCluster, version_again, phase_again, cluster_takes, cluster_again, cluster_other, cluster_end}
@@ -25,16 +25,16 @@ abbrev pub after_count : Version → List Phase → Head → List (List Cluster)
 after_count v plan h lists after = flat_map (phase_line v) plan ++ (head_line h ++ (cluster_lines v 0 lists ++ (codes "end\n" ++ after)))
 
 -- a text line by line, in its own version
-pub own_lines : (plan : List Phase) (h : Head) (lists : List (List Cluster)) (after : List ℕ) → instance_text plan h lists ++ after ≡ first_line (version_of plan lists) ++ (count_line (length plan) ++ after_count (version_of plan lists) plan h lists after)
-unfolding instance_text
-own_lines plan h lists after = regrouped_form (version_of plan lists) plan h lists after
+pub own_lines : (free : Bool) (plan : List Phase) (h : Head) (lists : List (List Cluster)) (after : List ℕ) → whole_text free plan h lists ++ after ≡ first_line (version_of free plan lists) ++ (count_line (length plan) ++ after_count (version_of free plan lists) plan h lists after)
+unfolding whole_text
+own_lines free plan h lists after = regrouped_form (version_of free plan lists) plan h lists after
 
 -- after the first line: the text has this version
-pub after_version : (v : Version) (g : BeginsFront (first_line v)) → (version_of g.plan g.lists ≡ v) × (count_line (length g.plan) ++ after_count (version_of g.plan g.lists) g.plan g.head g.lists g.after ≡ g.rest)
+pub after_version : (v : Version) (g : BeginsFront (first_line v)) → (version_of g.free g.plan g.lists ≡ v) × (count_line (length g.plan) ++ after_count (version_of g.free g.plan g.lists) g.plan g.head g.lists g.after ≡ g.rest)
 after_version v g =
-    let w = version_of g.plan g.lists in
+    let w = version_of g.free g.plan g.lists in
     let tail = count_line (length g.plan) ++ after_count w g.plan g.head g.lists g.after in
-    let same = same_Some (w, tail) (v, g.rest) (sym (version_again w tail) ∙ ap version_line_at (sym (own_lines g.plan g.head g.lists g.after) ∙ g.text) ∙ version_again v g.rest) in
+    let same = same_Some (w, tail) (v, g.rest) (sym (version_again w tail) ∙ ap version_line_at (sym (own_lines g.free g.plan g.head g.lists g.after) ∙ g.text) ∙ version_again v g.rest) in
     (ap (λ (p : Version × List ℕ). p.0) same, ap (λ (p : Version × List ℕ). p.1) same)
 
 -- after the opening: its phases are as many, and the rest is what follows
@@ -50,9 +50,9 @@ pub record AfterOpening (v : Version) (n : ℕ) (T : List ℕ) : Type 0 where
 
 pub after_opening : (v : Version) (n : ℕ) (g : BeginsFront (opening v n)) → 2 ≤ n → n ≤ 4 → AfterOpening v n g.rest
 after_opening v n g low high =
-    let w = version_of g.plan g.lists in
+    let w = version_of g.free g.plan g.lists in
     let tail : Version → List ℕ = λ u. after_count u g.plan g.head g.lists g.after in
-    let e : first_line w ++ (count_line (length g.plan) ++ tail w) ≡ first_line v ++ (count_line n ++ g.rest) = sym (own_lines g.plan g.head g.lists g.after) ∙ g.text ∙ opening-append v n g.rest in
+    let e : first_line w ++ (count_line (length g.plan) ++ tail w) ≡ first_line v ++ (count_line n ++ g.rest) = sym (own_lines g.free g.plan g.head g.lists g.after) ∙ g.text ∙ opening-append v n g.rest in
     let same = same_Ok (w, length g.plan, tail w) (v, n, g.rest)
     (sym (opening_again w 0 (length g.plan) (tail w) g.fits.count.0 g.fits.count.1) ∙ ap (opening_at 0) e ∙ opening_again v 0 n g.rest low high) in
     let is : w ≡ v = ap (λ (p : Version × ℕ × List ℕ). p.0) same in
@@ -62,14 +62,14 @@ after_opening v n g low high =
       lists = g.lists;
       after = g.after;
       fits = g.fits;
-      says = subst (λ u. Says u g.plan g.lists) is (says_own g.plan g.head g.lists g.fits);
+      says = subst (λ u. Says u g.plan g.lists) is (says_own g.free g.plan g.head g.lists g.fits g.ring);
       len = ap (λ (p : Version × ℕ × List ℕ). p.1) same;
       text = ap tail (sym is) ∙ ap (λ (p : Version × ℕ × List ℕ). p.2) same;
     }
 
 -- the same text, seen from a part of its front on
 abbrev pub seen_from : (A T : List ℕ) (F : List ℕ) (g : BeginsFront F) → F ++ g.rest ≡ A ++ T → BeginsFront A
-seen_from A T F g e = record { plan = g.plan; head = g.head; lists = g.lists; after = g.after; rest = T; fits = g.fits; text = g.text ∙ e }
+seen_from A T F g e = record { free = g.free; plan = g.plan; head = g.head; lists = g.lists; after = g.after; rest = T; fits = g.fits; ring = g.ring; text = g.text ∙ e }
 
 -- the same after what follows the opening
 pub after_more : (v : Version) (n : ℕ) (X : List ℕ) (g : BeginsFront (opening v n ++ X)) → 2 ≤ n → n ≤ 4 → AfterOpening v n (X ++ g.rest)

@@ -10,8 +10,8 @@ use Rattle.phase_plan.specs.declared.Phase.{Phase}
 use Rattle.switch_rules.specs.declared.Head.{Head}
 use Rattle.switch_rules.specs.declared.Cluster.{Cluster}
 use Rattle.instance_form.specs.declared.form.Version.{Version}
-use Rattle.instance_form.specs.declared.form.Version.TheVariants.{One, Two, Three}
-use Rattle.instance_form.specs.InstanceText.{line, version_of, first_line, count_line, mark, phase_numbers, phase_line, freshness, head_line, cluster_numbers, cluster_line, cluster_lines, form_text, instance_text, IsWritable, IsWritableHead, IsWritableCluster, HasText}
+use Rattle.instance_form.specs.declared.form.Version.TheVariants.{One, Two, Three, Four}
+use Rattle.instance_form.specs.InstanceText.{line, version_of, first_line, count_line, mark, phase_numbers, phase_line, freshness, head_line, cluster_numbers, cluster_line, cluster_lines, form_text, whole_text, IsWritable, IsWritableHead, IsWritableCluster, HasText}
 use Rattle.instance_form.specs.Lengths.{most_cluster_bytes, most_other_bytes}
 
 -- no word has more than ten bytes
@@ -43,6 +43,7 @@ phase_line-le : (v : Version) (p : Phase) → IsWritable p → length (phase_lin
 phase_line-le One p h = omega (arith, line-le (codes "phase" ∷ map decimal (phase_numbers p)) (times-short p [] h tt))
 phase_line-le Two p h = line-le (codes "phase" ∷ (map decimal (phase_numbers p) ++ mark p.skip ∷ [])) (times-short p (mark p.skip ∷ []) h (mark-le p.skip, tt))
 phase_line-le Three p h = line-le (codes "phase" ∷ (map decimal (phase_numbers p) ++ mark p.skip ∷ [])) (times-short p (mark p.skip ∷ []) h (mark-le p.skip, tt))
+phase_line-le Four p h = line-le (codes "phase" ∷ (map decimal (phase_numbers p) ++ mark p.skip ∷ [])) (times-short p (mark p.skip ∷ []) h (mark-le p.skip, tt))
 
 fresh-le : (b : Bool) → length (freshness b) ≤ 10
 fresh-le true = lit≤ tt
@@ -62,6 +63,7 @@ cluster_line-le : (v : Version) (k : ℕ) (c : Cluster) → k < 2 ^ 32 → IsWri
 cluster_line-le One k c small h = omega (arith, line-le (codes "cluster" ∷ map decimal (k ∷ cluster_numbers One c)) (lit≤ tt, (digits-le k small, (digits-le c.size h.size, span-short c h))))
 cluster_line-le Two k c small h = omega (arith, line-le (codes "cluster" ∷ map decimal (k ∷ cluster_numbers Two c)) (lit≤ tt, (digits-le k small, (digits-le c.size h.size, span-short c h))))
 cluster_line-le Three k c small h = line-le (codes "cluster" ∷ map decimal (k ∷ cluster_numbers Three c)) (lit≤ tt, (digits-le k small, (digits-le c.size h.size, (digits-le c.load h.load, span-short c h))))
+cluster_line-le Four k c small h = line-le (codes "cluster" ∷ map decimal (k ∷ cluster_numbers Four c)) (lit≤ tt, (digits-le k small, (digits-le c.size h.size, (digits-le c.load h.load, span-short c h))))
 
 phase_lines-le : (v : Version) (plan : List Phase) → All IsWritable plan → length (flat_map (phase_line v) plan) ≤ length plan * 89
 phase_lines-le v plan fits =
@@ -86,6 +88,7 @@ first_line-le : (v : Version) → length (first_line v) ≤ 12
 first_line-le One = lit≤ tt
 first_line-le Two = lit≤ tt
 first_line-le Three = lit≤ tt
+first_line-le Four = lit≤ tt
 
 added : (opening count phases head clusters closing n c : ℕ) → opening ≤ 12 → count ≤ 23 → phases ≤ n * 89 → head ≤ 56 → clusters ≤ most_cluster_bytes * c → closing ≤ 4 → n ≤ 4
     → opening + (count + (phases + (head + (clusters + (closing + 0))))) ≤ most_cluster_bytes * c + most_other_bytes
@@ -95,10 +98,10 @@ six : (a b c d e f : List ℕ) → length (concat (a ∷ b ∷ c ∷ d ∷ e ∷
 six a b c d e f = simp length-append
 
 -- how many bytes a text has at most
-pub text-le : (plan : List Phase) (h : Head) (lists : List (List Cluster)) → HasText plan h lists → length (instance_text plan h lists) ≤ most_cluster_bytes * sum_by (λ list. length list) lists + most_other_bytes
-unfolding instance_text form_text
-text-le plan h lists fits =
-    let v = version_of plan lists in
+pub text-le : (free : Bool) (plan : List Phase) (h : Head) (lists : List (List Cluster)) → HasText plan h lists → length (whole_text free plan h lists) ≤ most_cluster_bytes * sum_by (λ list. length list) lists + most_other_bytes
+unfolding whole_text form_text
+text-le free plan h lists fits =
+    let v = version_of free plan lists in
     let few : length plan ≤ 4 = fits.count.1 in
     omega (
       arith,

@@ -1,8 +1,9 @@
 -- A line that is read has this text, and a line with this text is read.
-use Rattle.std.proofs.Common.{◌≡◌, ◌≢◌, ℕ, ◌^◌, ◌<◌, ◌≤◌, Bool, true, false, cond, eqb, leb, ◌&&◌, List, [], ◌∷◌, ◌++◌, get_or, Some, None, refl, sym, ap, subst, ◌∙◌, append_assoc, arith}
+use Rattle.std.proofs.Common.{◌≡◌, ◌≢◌, ℕ, ◌^◌, ◌<◌, ◌≤◌, Bool, true, false, cond, eqb, leb, ◌&&◌, List, [], ◌∷◌, ◌++◌, get_or, Option, Some, None, refl, sym, ap, subst, ◌∙◌, append_assoc, arith}
 use Rattle.std.specs.Prelude.{codes}
 use Rattle.std.specs.Char.{IsAsciiDigit}
 use Rattle.std.specs.Fmt.{decimal}
+use Rattle.std.specs.Option.{option_or, option_map}
 use Rattle.std.proofs.lemmas.Bool.{and_parts, leb-true, le-leb, eqb-true, eq-eqb, ne_eqb}
 use Rattle.std.proofs.lemmas.Option.{cond_some, same_Some}
 use Rattle.text_lines.specs.Fields.{literal_at, field_at}
@@ -11,7 +12,7 @@ use Rattle.phase_plan.specs.declared.Phase.{Phase}
 use Rattle.switch_rules.specs.declared.Head.{Head}
 use Rattle.switch_rules.specs.declared.Cluster.{Cluster}
 use Rattle.instance_form.specs.declared.form.Version.{Version}
-use Rattle.instance_form.specs.declared.form.Version.TheVariants.{One, Two, Three}
+use Rattle.instance_form.specs.declared.form.Version.TheVariants.{One, Two, Three, Four}
 use Rattle.instance_form.specs.InstanceText.{first_line, count_line, phase_numbers, phase_line, head_line, cluster_line, IsWritable, IsWritableHead, IsWritableCluster}
 use Rattle.instance_form.specs.Lines.{numbers_at, value_at, version_line_at, count_line_at, phase_limits, times_end, mark_end, mark_at, phase_of, phase_line_at, head_limits, head_end, freshness_at, head_of, head_line_at, load_at, span_limits, cluster_line_at}
 use Rattle.instance_form.proofs.NumberLaws.{then_some, space, line_feed, numbers_text, AreBelow, below-length, numbers_take, numbers_again, value_takes, value_first, value_later}
@@ -25,14 +26,18 @@ pub record Takes {A : Type 0} (text : A → List ℕ) (fits : A → Type 0) (byt
 
 pub version_again : (v : Version) (rest : List ℕ) → version_line_at (first_line v ++ rest) ≡ Some (v, rest)
 unfolding literal_at
-version_again One rest = value_first first_line One (Two ∷ Three ∷ []) rest
-version_again Two rest = value_later first_line One (Two ∷ Three ∷ []) (first_line Two ++ rest) (Two, rest) refl (value_first first_line Two (Three ∷ []) rest)
+version_again One rest = value_first first_line One (Two ∷ Three ∷ Four ∷ []) rest
+version_again Two rest = value_later first_line One (Two ∷ Three ∷ Four ∷ []) (first_line Two ++ rest) (Two, rest) refl (value_first first_line Two (Three ∷ Four ∷ []) rest)
 version_again Three rest =
-    value_later first_line One (Two ∷ Three ∷ []) (first_line Three ++ rest) (Three, rest) refl
-    (value_later first_line Two (Three ∷ []) (first_line Three ++ rest) (Three, rest) refl (value_first first_line Three [] rest))
+    value_later first_line One (Two ∷ Three ∷ Four ∷ []) (first_line Three ++ rest) (Three, rest) refl
+    (value_later first_line Two (Three ∷ Four ∷ []) (first_line Three ++ rest) (Three, rest) refl (value_first first_line Three (Four ∷ []) rest))
+version_again Four rest =
+    value_later first_line One (Two ∷ Three ∷ Four ∷ []) (first_line Four ++ rest) (Four, rest) refl
+    (value_later first_line Two (Three ∷ Four ∷ []) (first_line Four ++ rest) (Four, rest) refl
+    (value_later first_line Three (Four ∷ []) (first_line Four ++ rest) (Four, rest) refl (value_first first_line Four [] rest)))
 
 pub version_takes : (bytes : List ℕ) (x : Version × List ℕ) → version_line_at bytes ≡ Some x → bytes ≡ first_line x.0 ++ x.1
-version_takes bytes x e = value_takes first_line (One ∷ Two ∷ Three ∷ []) bytes x e
+version_takes bytes x e = value_takes first_line (One ∷ Two ∷ Three ∷ Four ∷ []) bytes x e
 
 -- ---- the number of phases
 
@@ -59,11 +64,12 @@ count_takes bytes x e =
 
 -- ---- a phase
 
--- what a version says of a mark: version 1 has none
+-- what a version says of a mark: version 1 has none, and version 4 has no other
 abbrev pub IsSaidMark : Version → Bool → Type 0
 IsSaidMark One skip = skip ≡ false
 IsSaidMark Two skip = Unit {0}
 IsSaidMark Three skip = Unit {0}
+IsSaidMark Four skip = skip ≡ true
 
 -- the line of a phase in this version says all of it
 pub record IsSaidPhase (v : Version) (p : Phase) : Type 0 where
@@ -75,6 +81,7 @@ abbrev mark_text : Version → Bool → List ℕ
 mark_text One skip = []
 mark_text Two skip = mark_end skip
 mark_text Three skip = mark_end skip
+mark_text Four skip = mark_end skip
 
 mark_again : (skip : Bool) (rest : List ℕ) → value_at mark_end (true ∷ false ∷ []) (mark_end skip ++ rest) ≡ Some (skip, rest)
 unfolding literal_at
@@ -85,16 +92,28 @@ marked_again : (v : Version) (skip : Bool) (rest : List ℕ) → IsSaidMark v sk
 marked_again One skip rest said = ap (λ b. Some (b, rest)) (sym said)
 marked_again Two skip rest said = mark_again skip rest
 marked_again Three skip rest said = mark_again skip rest
+marked_again Four skip rest said = rw said (value_first mark_end true [] rest)
+
+-- the one value that is read
+one_value : {A : Type 0} (text : A → List ℕ) (x : A) (bytes : List ℕ) (y : A × List ℕ) → value_at text (x ∷ []) bytes ≡ Some y → y.0 ≡ x
+unfolding value_at
+one_value {A} text x bytes y e = by_text (literal_at (text x) bytes) e
+  where
+    by_text : (o : Option (List ℕ)) → option_or (option_map (λ (rest : List ℕ). (x, rest)) o) None ≡ Some y → y.0 ≡ x
+    by_text (Some rest) h = ap (λ (z : A × List ℕ). z.0) (sym (same_Some (x, rest) y h))
+    by_text None h = absurd cc
 
 marked_takes : (v : Version) (bytes : List ℕ) (x : Bool × List ℕ) → mark_at v bytes ≡ Some x → (bytes ≡ mark_text v x.0 ++ x.1) × IsSaidMark v x.0
 marked_takes One bytes x e = let same = same_Some (false, bytes) x e in (ap (λ (y : Bool × List ℕ). y.1) same, ap (λ (y : Bool × List ℕ). y.0) (sym same))
 marked_takes Two bytes x e = (value_takes mark_end (true ∷ false ∷ []) bytes x e, tt)
 marked_takes Three bytes x e = (value_takes mark_end (true ∷ false ∷ []) bytes x e, tt)
+marked_takes Four bytes x e = (value_takes mark_end (true ∷ []) bytes x e, one_value mark_end true bytes x e)
 
 times_apart : (v : Version) → ¬ IsAsciiDigit (times_end v)
 times_apart One = line_feed
 times_apart Two = space
 times_apart Three = space
+times_apart Four = space
 
 below_phase : (p : Phase) → IsWritable p → AreBelow (phase_numbers p) phase_limits
 below_phase p fits = (fits.least, (fits.greatest, (fits.yellow, (fits.clear, (fits.loss, (fits.wait, tt))))))
@@ -104,6 +123,7 @@ regrouped_phase : (v : Version) (p : Phase) (rest : List ℕ) → phase_line v p
 regrouped_phase One p rest = simp append_assoc
 regrouped_phase Two p rest = simp append_assoc
 regrouped_phase Three p rest = simp append_assoc
+regrouped_phase Four p rest = simp append_assoc
 
 pub phase_again : (v : Version) (p : Phase) (rest : List ℕ) → IsSaidPhase v p → phase_line_at v (phase_line v p ++ rest) ≡ Some (p, rest)
 unfolding phase_line_at
@@ -181,11 +201,12 @@ head_takes bytes x e =
 
 -- ---- a cluster
 
--- what a version says of a load: in version 3 alone it can be another than the size
+-- what a version says of a load: in versions 3 and 4 alone it can be another than the size
 abbrev pub IsSaidLoad : Version → ℕ → ℕ → Type 0
 IsSaidLoad One size load = load ≡ size
 IsSaidLoad Two size load = load ≡ size
 IsSaidLoad Three size load = Unit {0}
+IsSaidLoad Four size load = Unit {0}
 
 -- the line of a cluster in this version says all of it
 pub record IsSaidCluster (v : Version) (c : Cluster) : Type 0 where
@@ -197,11 +218,13 @@ abbrev load_text : Version → ℕ → List ℕ
 load_text One load = []
 load_text Two load = []
 load_text Three load = decimal load ++ 32 ∷ []
+load_text Four load = decimal load ++ 32 ∷ []
 
 load_again : (v : Version) (size load : ℕ) (rest : List ℕ) → IsSaidLoad v size load → load < 2 ^ 32 → load_at v size (load_text v load ++ rest) ≡ Some (load, rest)
 load_again One size load rest said small = ap (λ n. Some (n, rest)) (sym said)
 load_again Two size load rest said small = ap (λ n. Some (n, rest)) (sym said)
 load_again Three size load rest said small = ap (field_at (2 ^ 32) 32) (append_assoc (decimal load) (32 ∷ []) rest) ∙ field_again (2 ^ 32) 32 load rest (omega arith) space small
+load_again Four size load rest said small = ap (field_at (2 ^ 32) 32) (append_assoc (decimal load) (32 ∷ []) rest) ∙ field_again (2 ^ 32) 32 load rest (omega arith) space small
 
 load_takes : (v : Version) (size : ℕ) (bytes : List ℕ) (x : ℕ × List ℕ) → size < 2 ^ 32 → load_at v size bytes ≡ Some x → (bytes ≡ load_text v x.0 ++ x.1) × IsSaidLoad v size x.0 × (x.0 < 2 ^ 32)
 load_takes One size bytes x small e =
@@ -215,6 +238,9 @@ load_takes Two size bytes x small e =
 load_takes Three size bytes x small e =
     let t = field_takes (2 ^ 32) 32 bytes x.0 x.1 e in
     (t.1 ∙ sym (append_assoc (decimal x.0) (32 ∷ []) x.1), tt, t.0)
+load_takes Four size bytes x small e =
+    let t = field_takes (2 ^ 32) 32 bytes x.0 x.1 e in
+    (t.1 ∙ sym (append_assoc (decimal x.0) (32 ∷ []) x.1), tt, t.0)
 
 -- a cluster's line after its phase, as its units are read
 abbrev cluster_rest : Version → Cluster → List ℕ → List ℕ
@@ -224,6 +250,7 @@ regrouped_cluster : (v : Version) (k : ℕ) (c : Cluster) (rest : List ℕ) → 
 regrouped_cluster One k c rest = simp append_assoc
 regrouped_cluster Two k c rest = simp append_assoc
 regrouped_cluster Three k c rest = simp append_assoc
+regrouped_cluster Four k c rest = simp append_assoc
 
 pub cluster_again : (v : Version) (k : ℕ) (c : Cluster) (rest : List ℕ) → k < 2 ^ 8 → IsSaidCluster v c → cluster_line_at v k (cluster_line v k c ++ rest) ≡ Some (c, rest)
 unfolding cluster_line_at

@@ -1,16 +1,18 @@
 -- The version of a text is the least that says its phases and clusters.
-use Rattle.std.proofs.Common.{◌≡◌, ℕ, ◌≤◌, Bool, true, false, cond, eqb, List, [], ◌∷◌, length, refl, ap}
+use Rattle.std.proofs.Common.{◌≡◌, ℕ, ◌≤◌, Bool, true, false, not, cond, eqb, List, [], ◌∷◌, length, count_by, refl, ap, arith}
 use Rattle.std.specs.List.{All, AllByRecursion}
 use Rattle.std.proofs.lemmas.Bool.{or_parts, not-false, eqb-true, eq-eqb}
 use Rattle.std.proofs.lemmas.List.Elements.{All-from_recursion, recursion_from_All, All-weaker}
+use Rattle.std.proofs.lemmas.List.Sums.{sum_by-cons}
+use Rattle.phase_plan.specs.Phases.{is_unmarked}
 use Rattle.phase_plan.specs.declared.Phase.{Phase}
 use Rattle.switch_rules.specs.declared.Head.{Head}
 use Rattle.switch_rules.specs.declared.Cluster.{Cluster}
 use Rattle.instance_form.specs.declared.form.Version.{Version}
-use Rattle.instance_form.specs.declared.form.Version.TheVariants.{One, Two, Three}
-use Rattle.instance_form.specs.Versions.{has_marks, has_load, has_loads, version_of}
+use Rattle.instance_form.specs.declared.form.Version.TheVariants.{One, Two, Three, Four}
+use Rattle.instance_form.specs.Versions.{has_marks, has_load, has_loads, says_free, version_of}
 use Rattle.instance_form.specs.Reading.{can_be_all, may_end}
-use Rattle.instance_form.specs.InstanceText.{form_text, instance_text, IsWritable, IsWritableHead, IsWritableCluster, HasText}
+use Rattle.instance_form.specs.InstanceText.{form_text, whole_text, IsFreeWhere, IsWritable, IsWritableHead, IsWritableCluster, HasText}
 use Rattle.instance_form.proofs.LineLaws.{IsSaidMark, IsSaidPhase, IsSaidLoad, IsSaidCluster}
 
 -- the text of this version says all of these phases and clusters, and is no text without one of them
@@ -45,21 +47,44 @@ unloaded v says (cs ∷ ls) none fits =
     let t = or_parts (has_load cs) (has_loads ls) none in
     (unloaded_list v says cs t.0 fits.0, unloaded v says ls t.1 fits.1)
 
-loaded_list : (list : List Cluster) → AllByRecursion IsWritableCluster list → AllByRecursion (IsSaidCluster Three) list
-loaded_list [] fits = tt
-loaded_list (c ∷ cs) fits = (record { fits = fits.0; load = tt }, loaded_list cs fits.1)
+loaded_list : (v : Version) → ((size load : ℕ) → IsSaidLoad v size load) → (list : List Cluster) → AllByRecursion IsWritableCluster list → AllByRecursion (IsSaidCluster v) list
+loaded_list v says [] fits = tt
+loaded_list v says (c ∷ cs) fits = (record { fits = fits.0; load = says c.size c.load }, loaded_list v says cs fits.1)
 
-loaded : (lists : List (List Cluster)) → AllByRecursion (AllByRecursion IsWritableCluster) lists → AllByRecursion (AllByRecursion (IsSaidCluster Three)) lists
-loaded [] fits = tt
-loaded (cs ∷ ls) fits = (loaded_list cs fits.0, loaded ls fits.1)
+loaded : (v : Version) → ((size load : ℕ) → IsSaidLoad v size load) → (lists : List (List Cluster)) → AllByRecursion (AllByRecursion IsWritableCluster) lists → AllByRecursion (AllByRecursion (IsSaidCluster v)) lists
+loaded v says [] fits = tt
+loaded v says (cs ∷ ls) fits = (loaded_list v says cs fits.0, loaded v says ls fits.1)
 
-pub own_version : (plan : List Phase) (lists : List (List Cluster)) → AllByRecursion IsWritable plan → AllByRecursion (AllByRecursion IsWritableCluster) lists → Says (version_of plan lists) plan lists
-own_version plan lists fits small = by_tests (has_loads lists) (has_marks plan) refl refl
+-- where none is unmarked, all are marked
+all_marked : (plan : List Phase) → count_by is_unmarked plan ≡ 0 → AllByRecursion IsWritable plan → AllByRecursion (IsSaidPhase Four) plan
+all_marked [] none fits = tt
+all_marked (p ∷ ps) none fits =
+    let parts = sum_by-cons (λ (q : Phase). cond (is_unmarked q) 1 0) p ps in
+    (record { fits = fits.0; mark = by p.skip (omega (arith, none, parts)) }, all_marked ps (omega (arith, none, parts)) fits.1)
+  where
+    by : (b : Bool) → ◌≡◌ {A = ℕ} (cond (not b) 1 0) 0 → b ≡ true
+    by true e = refl
+    by false e = absurd (omega (arith, e))
+
+pub own_version : (free : Bool) (plan : List Phase) (lists : List (List Cluster)) → AllByRecursion IsWritable plan → IsFreeWhere free plan → AllByRecursion (AllByRecursion IsWritableCluster) lists → Says (version_of free plan lists) plan lists
+own_version true plan lists fits ring small =
+    record { phases = all_marked plan (eqb-true (count_by is_unmarked plan) 0 (ring refl)) fits; clusters = loaded Four (λ size load. tt) lists small; whole = refl; ends = refl }
+own_version false plan lists fits ring small = by_tests (has_loads lists) (has_marks plan) refl refl
   where
     by_tests : (loads marks : Bool) → has_loads lists ≡ loads → has_marks plan ≡ marks → Says (cond loads Three (cond marks Two One)) plan lists
-    by_tests true marks l m = record { phases = marked Three (λ skip. tt) plan fits; clusters = loaded lists small; whole = refl; ends = l }
+    by_tests true marks l m = record { phases = marked Three (λ skip. tt) plan fits; clusters = loaded Three (λ size load. tt) lists small; whole = refl; ends = l }
     by_tests false true l m = record { phases = marked Two (λ skip. tt) plan fits; clusters = unloaded Two (λ size load e. e) lists l small; whole = m; ends = refl }
     by_tests false false l m = record { phases = unmarked plan m fits; clusters = unloaded One (λ size load e. e) lists l small; whole = refl; ends = refl }
+
+-- it says whether the ring may be free
+pub free_again : (free : Bool) (plan : List Phase) (lists : List (List Cluster)) → says_free (version_of free plan lists) ≡ free
+free_again true plan lists = refl
+free_again false plan lists = by_tests (has_loads lists) (has_marks plan)
+  where
+    by_tests : (loads marks : Bool) → says_free (cond loads Three (cond marks Two One)) ≡ false
+    by_tests true marks = refl
+    by_tests false true = refl
+    by_tests false false = refl
 
 -- ---- and no other version does
 
@@ -75,15 +100,28 @@ no_loads : (v : Version) → ((size load : ℕ) → IsSaidLoad v size load → l
 no_loads v says [] said = refl
 no_loads v says (cs ∷ ls) said = rw (no_load v says cs said.0) (no_loads v says ls said.1)
 
-pub no_other_version : (v : Version) (plan : List Phase) (lists : List (List Cluster)) → Says v plan lists → version_of plan lists ≡ v
+pub no_other_version : (v : Version) (plan : List Phase) (lists : List (List Cluster)) → Says v plan lists → version_of (says_free v) plan lists ≡ v
 no_other_version One plan lists says = rw (no_loads One (λ size load e. e) lists says.clusters, no_marks plan says.phases) refl
 no_other_version Two plan lists says = rw (no_loads Two (λ size load e. e) lists says.clusters, says.whole) refl
 no_other_version Three plan lists says = rw says.ends refl
+no_other_version Four plan lists says = refl
 
 -- the text of phases and clusters that a version says is their one text
-pub text_of_version : (v : Version) (plan : List Phase) (h : Head) (lists : List (List Cluster)) → Says v plan lists → instance_text plan h lists ≡ form_text v plan h lists
-unfolding instance_text
+pub text_of_version : (v : Version) (plan : List Phase) (h : Head) (lists : List (List Cluster)) → Says v plan lists → whole_text (says_free v) plan h lists ≡ form_text v plan h lists
+unfolding whole_text
 text_of_version v plan h lists says = ap (λ w. form_text w plan h lists) (no_other_version v plan lists says)
+
+-- where a version says that the ring may be free, all phases are marked
+none_unmarked : (plan : List Phase) → AllByRecursion (IsSaidPhase Four) plan → count_by is_unmarked plan ≡ 0
+none_unmarked [] said = refl
+none_unmarked (p ∷ ps) said =
+    omega (arith, sum_by-cons (λ (q : Phase). cond (is_unmarked q) 1 0) p ps, ap {B = ℕ} (λ b. cond (not b) 1 0) said.0.mark, none_unmarked ps said.1)
+
+pub said_ring : (v : Version) (plan : List Phase) → AllByRecursion (IsSaidPhase v) plan → IsFreeWhere (says_free v) plan
+said_ring One plan said e = absurd cc
+said_ring Two plan said e = absurd cc
+said_ring Three plan said e = absurd cc
+said_ring Four plan said e = eq-eqb (count_by is_unmarked plan) 0 (none_unmarked plan said)
 
 -- ---- what has a text
 
@@ -97,8 +135,8 @@ recursion_within P [] h = tt
 recursion_within P (xs ∷ xss) h = (recursion_from_All P xs h.0, recursion_within P xss h.1)
 
 -- a form that has a text is said by its version
-pub says_own : (plan : List Phase) (h : Head) (lists : List (List Cluster)) → HasText plan h lists → Says (version_of plan lists) plan lists
-says_own plan h lists fits = own_version plan lists (recursion_from_All IsWritable plan fits.phases) (recursion_within IsWritableCluster lists (recursion_from_All (All IsWritableCluster) lists fits.clusters))
+pub says_own : (free : Bool) (plan : List Phase) (h : Head) (lists : List (List Cluster)) → HasText plan h lists → IsFreeWhere free plan → Says (version_of free plan lists) plan lists
+says_own free plan h lists fits ring = own_version free plan lists (recursion_from_All IsWritable plan fits.phases) ring (recursion_within IsWritableCluster lists (recursion_from_All (All IsWritableCluster) lists fits.clusters))
 
 -- and what a version says has a text
 pub said_has_text : (v : Version) (plan : List Phase) (h : Head) (lists : List (List Cluster)) → 2 ≤ length plan → length plan ≤ 4 → length lists ≡ length plan → IsWritableHead h → Says v plan lists → HasText plan h lists

@@ -1,5 +1,5 @@
 -- Which line of bytes is the first that has not the form of its place.
-use Rattle.std.specs.Prelude.{◌≡◌, ℕ, List, ◌++◌}
+use Rattle.std.specs.Prelude.{◌≡◌, ℕ, Bool, List, ◌++◌}
 use Rattle.text_lines.specs.Lines.{IsFirstFaultyLine}
 pub use Rattle.text_lines.specs.Lines.{line_feeds}
 use Rattle.phase_plan.specs.declared.Phase.{Phase}
@@ -7,26 +7,30 @@ use Rattle.switch_rules.specs.declared.Head.{Head}
 use Rattle.switch_rules.specs.declared.Cluster.{Cluster}
 use Rattle.instance_form.specs.declared.form.FormFault.{FormFault}
 use Rattle.instance_form.specs.declared.form.FormFault.TheVariants.{Line, NoMemory}
-use Rattle.instance_form.specs.InstanceText.{HasText, instance_text}
+use Rattle.instance_form.specs.InstanceText.{HasText, IsFreeWhere, whole_text}
 
 -- some form's text begins with these bytes
 pub record BeginsText (front : List ℕ) : Type 0 where
+  pub free : Bool
   pub plan : List Phase
   pub head : Head
   pub lists : List (List Cluster)
   pub rest : List ℕ
   pub fits : HasText plan head lists
-  pub text : instance_text plan head lists ≡ front ++ rest
+  pub ring : IsFreeWhere free plan
+  pub text : whole_text free plan head lists ≡ front ++ rest
 
 -- some form's text with bytes after it begins with these bytes
 pub record BeginsFront (front : List ℕ) : Type 0 where
+  pub free : Bool
   pub plan : List Phase
   pub head : Head
   pub lists : List (List Cluster)
   pub after : List ℕ
   pub rest : List ℕ
   pub fits : HasText plan head lists
-  pub text : instance_text plan head lists ++ after ≡ front ++ rest
+  pub ring : IsFreeWhere free plan
+  pub text : whole_text free plan head lists ++ after ≡ front ++ rest
 
 -- line n is the first that has not the form of its place; the first line has the number first
 abbrev pub IsFirstFault : (List ℕ → Type 0) → ℕ → ℕ → List ℕ → Type 0

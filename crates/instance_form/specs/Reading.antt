@@ -9,20 +9,21 @@ use Rattle.switch_rules.specs.declared.Head.{Head}
 use Rattle.switch_rules.specs.declared.Cluster.{Cluster}
 use Rattle.instance_form.specs.declared.form.Form.{Form}
 use Rattle.instance_form.specs.declared.form.Version.{Version}
-use Rattle.instance_form.specs.declared.form.Version.TheVariants.{One, Two, Three}
+use Rattle.instance_form.specs.declared.form.Version.TheVariants.{One, Two, Three, Four}
 use Rattle.instance_form.specs.declared.form.FormFault.{FormFault}
 use Rattle.instance_form.specs.declared.form.FormFault.TheVariants.{Line, NoMemory}
-use Rattle.instance_form.specs.Versions.{has_marks, has_loads}
+use Rattle.instance_form.specs.Versions.{has_marks, has_loads, says_free}
 use Rattle.instance_form.specs.Lines.{version_line_at, count_line_at, phase_line_at, head_line_at, cluster_line_at}
 
 -- a form without where it lies in memory
 pub record Parts : Type 0 where
+  pub free : Bool
   pub plan : List Phase
   pub head : Head
   pub lists : List (List Cluster)
 
 abbrev pub parts_of : Form → Parts
-parts_of form = record { plan = form.phases.items; head = form.head; lists = form.lists.items }
+parts_of form = record { free = form.free_ring; plan = form.phases.items; head = form.head; lists = form.lists.items }
 
 -- what a function returned, seen by view, is what reading gives, unless memory ran out
 abbrev pub Fails : {Y : Type 0} → FormFault → Result Y ℕ → Type 0
@@ -46,6 +47,7 @@ abbrev pub can_be_all : Version → List Phase → Bool
 can_be_all One plan = true
 can_be_all Two plan = has_marks plan
 can_be_all Three plan = true
+can_be_all Four plan = true
 
 -- the lines of all phases; the last of them is at fault where they can't be all
 unfoldable pub plan_at : Version → ℕ → ℕ → List ℕ → Result (List Phase × List ℕ) ℕ
@@ -73,6 +75,7 @@ abbrev pub may_end : Version → List (List Cluster) → Bool
 may_end One lists = true
 may_end Two lists = true
 may_end Three lists = has_loads lists
+may_end Four lists = true
 
 -- the last line, with this number, after these lists
 unfoldable pub closing_at : Version → List (List Cluster) → ℕ → List ℕ → Result (List ℕ) ℕ
@@ -86,4 +89,4 @@ form_at line bytes = do
   head ← ok_or (head_line_at plan.1) (line + 2 + first.1)
   lists ← Ok (lists_at first.0 first.1 0 head.1)
   rest ← closing_at first.0 lists.0 (line + 2 + first.1 + 1 + sum_by (λ list. length list) lists.0) lists.1
-  Ok (record { plan = plan.0; head = head.0; lists = lists.0 }, line + 2 + first.1 + 1 + sum_by (λ list. length list) lists.0 + 1, rest)
+  Ok (record { free = says_free first.0; plan = plan.0; head = head.0; lists = lists.0 }, line + 2 + first.1 + 1 + sum_by (λ list. length list) lists.0 + 1, rest)

@@ -10,11 +10,14 @@ use switch_rules::{Cluster, Head};
 
 /// What the lines of an instance's text say: 2 to 4 phases, a head, and the clusters of each phase.
 ///
-/// The numbers are as they stand in the text: they may be no plan, no head and no clusters.
+/// The numbers are as they stand in the text: they may be no plan, no head and no clusters. In a text of version 4 all
+/// phases are marked, and the ring may be free.
 ///
 /// docs/FORMATS.md, "Instance text".
 #[derive(Drop)]
 pub struct Form {
+    /// Whether the ring may be free, all phases being marked: version 4 alone says so.
+    pub free_ring: bool,
     /// The phases, in order.
     pub phases: Vec<Phase>,
     /// The head.
@@ -23,7 +26,8 @@ pub struct Form {
     pub lists: Vec<Items<Cluster>>,
 }
 
-/// Which form the lines of an instance's text have. A text has the least version that says its phases and clusters.
+/// Which form the lines of an instance's text have. A text has the least version that says its phases and clusters, and
+/// whether its ring may be free.
 ///
 /// docs/FORMATS.md, "Instance text".
 #[derive(Debug, Clone, Copy, PartialEq, Eq)]
@@ -34,6 +38,8 @@ pub enum Version {
     Two,
     /// Some cluster has another load than its size.
     Three,
+    /// All phases are marked, and the ring may be free.
+    Four,
 }
 
 /// Why bytes are no instance's text.

@@ -24,8 +24,11 @@ pub fn version_line(bytes: &[u8]) -> Option<(Version, &[u8])>
     if let Some(rest) = literal("instance 2\n", bytes) {
         return Some((Version::Two, rest));
     }
-    let rest = literal("instance 3\n", bytes)?;
-    Some((Version::Three, rest))
+    if let Some(rest) = literal("instance 3\n", bytes) {
+        return Some((Version::Three, rest));
+    }
+    let rest = literal("instance 4\n", bytes)?;
+    Some((Version::Four, rest))
 }
 
 /// The number of phases, 2 to 4, and the bytes after its line.
@@ -81,11 +84,11 @@ fn times_end(version: Version) -> u8
 {
     match version {
         Version::One => b'\n',
-        Version::Two | Version::Three => b' ',
+        Version::Two | Version::Three | Version::Four => b' ',
     }
 }
 
-/// The mark of a phase, which version 1 does not say, and the bytes after its line.
+/// The mark of a phase, which version 1 does not say, and the bytes after its line. In version 4 each phase is marked.
 #[tactic(auto, unfolding(crate::specs::Lines::value_at))]
 fn mark(version: Version, bytes: &[u8]) -> Option<(bool, &[u8])>
     ensures exact { option_map seen result ≡ mark_at version bytes.now }
@@ -93,10 +96,14 @@ fn mark(version: Version, bytes: &[u8]) -> Option<(bool, &[u8])>
 {
     match version {
         Version::One => return Some((false, bytes)),
-        Version::Two | Version::Three => {}
+        Version::Two | Version::Three | Version::Four => {}
     }
     if let Some(rest) = literal("skip\n", bytes) {
         return Some((true, rest));
+    }
+    match version {
+        Version::One | Version::Two | Version::Three => {}
+        Version::Four => return None,
     }
     let rest = literal("ring\n", bytes)?;
     Some((false, rest))
@@ -163,13 +170,13 @@ pub fn cluster_line(version: Version, phase: u8, bytes: &[u8]) -> Option<(Cluste
     Some((cluster, rest))
 }
 
-/// The load of a cluster of this size, which version 3 alone says, and the bytes after it.
+/// The load of a cluster of this size, which versions 3 and 4 alone say, and the bytes after it.
 fn load(version: Version, size: u32, bytes: &[u8]) -> Option<(u32, &[u8])>
     ensures exact { option_map seen result ≡ load_at version size bytes.now }
     ensures shorter { IfSome result (λ x. length x.1.now ≤ length bytes.now) }
 {
     match version {
         Version::One | Version::Two => Some((size, bytes)),
-        Version::Three => field_u32(b' ', bytes),
+        Version::Three | Version::Four => field_u32(b' ', bytes),
     }
 }

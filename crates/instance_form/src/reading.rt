@@ -1,12 +1,12 @@
 //! Reading an instance's text.
 
-ghost use Rattle.std.specs.Prelude.{◌≡◌, ◌+◌, ◌^◌, ◌<◌, ◌≤◌, ℕ, List, ◌++◌, length, codes, IfOk, IfErr, MatchResult};
+ghost use Rattle.std.specs.Prelude.{◌≡◌, ◌+◌, ◌^◌, ◌<◌, ◌≤◌, ℕ, List, ◌++◌, length, codes, Bool, IfOk, IfErr, MatchResult};
 ghost use Rattle.phase_plan.specs.declared.Phase.{Phase};
 ghost use Rattle.switch_rules.specs.declared.Head.{Head};
 ghost use Rattle.switch_rules.specs.declared.Cluster.{Cluster};
-ghost use Rattle.instance_form.specs.Answers.{HasParts, IsOutOfMemory};
+ghost use Rattle.instance_form.specs.Answers.{HasParts, IsOutOfMemory, IsWritableForm, text_of};
 ghost use Rattle.instance_form.specs.Faults.{BeginsText, BeginsFront, IsFaultOf};
-ghost use Rattle.instance_form.specs.InstanceText.{HasText, instance_text, line_count};
+ghost use Rattle.instance_form.specs.InstanceText.{HasText, IsFreeWhere, whole_text, line_count};
 ghost use Rattle.instance_form.specs.Reading.{Gives, parts_of, opening_at, plan_at, closing_at, form_at, can_be_all, may_end};
 ghost use Rattle.instance_form.specs.Lines.{seen, head_line_at};
 ghost use Rattle.std.specs.Option.{ok_or};
@@ -14,7 +14,7 @@ ghost use Rattle.std.specs.Option.{ok_or};
 use crate::form::{Form, FormFault, Version};
 use crate::lines::{count_line, head_line, version_line};
 use crate::lists::{lists, phases};
-use crate::versions::{has_loads, has_marks};
+use crate::versions::{has_loads, has_marks, says_free};
 use foundation::items::Items;
 use phase_plan::Phase;
 use std::alloc::Global;
@@ -62,7 +62,7 @@ fn can_be_all(version: Version, phases: &[Phase]) -> bool
     ensures { result ≡ can_be_all version phases.now }
 {
     match version {
-        Version::One | Version::Three => true,
+        Version::One | Version::Three | Version::Four => true,
         Version::Two => has_marks(phases),
     }
 }
@@ -98,7 +98,7 @@ fn may_end(version: Version, lists: &[Items<Cluster>]) -> bool
     ensures { result ≡ may_end version lists.now }
 {
     match version {
-        Version::One | Version::Two => true,
+        Version::One | Version::Two | Version::Four => true,
         Version::Three => has_loads(lists),
     }
 }
@@ -117,6 +117,7 @@ fn form_front(alloc: Global, line: u32, bytes: &[u8]) -> Result<(Form, u32, &[u8
     let line = line + 1 + clusters;
     let rest = closing(version, &lists, line, rest)?;
     let form = Form {
+        free_ring: says_free(version),
         phases,
         head,
         lists,
@@ -132,12 +133,11 @@ fn form_front(alloc: Global, line: u32, bytes: &[u8]) -> Result<(Form, u32, &[u8
 /// docs/FORMATS.md, "Instance text".
 pub fn read_front(alloc: Global, line: u32, bytes: &[u8]) -> Result<(Form, u32, &[u8]), FormFault>
     requires { line + length bytes.now ≤ 2 ^ 32 }
-    ensures ok { IfOk result (λ x. HasText x.0.phases.items x.0.head x.0.lists.items
-        × (bytes.now ≡ instance_text x.0.phases.items x.0.head x.0.lists.items ++ x.2.now)) }
+    ensures ok { IfOk result (λ x. IsWritableForm x.0 × (bytes.now ≡ text_of x.0 ++ x.2.now)) }
     ensures next { IfOk result (λ x. x.1 ≡ line + line_count x.0.phases.items x.0.lists.items) }
-    ensures only { (plan : List Phase) (h : Head) (lists : List (List Cluster)) (rest : List ℕ)
-        → HasText plan h lists → bytes.now ≡ instance_text plan h lists ++ rest
-        → MatchResult result (λ x. HasParts x.0 plan h lists × (x.2.now ≡ rest)) IsOutOfMemory }
+    ensures only { (free : Bool) (plan : List Phase) (h : Head) (lists : List (List Cluster)) (rest : List ℕ)
+        → HasText plan h lists → IsFreeWhere free plan → bytes.now ≡ whole_text free plan h lists ++ rest
+        → MatchResult result (λ x. HasParts x.0 free plan h lists × (x.2.now ≡ rest)) IsOutOfMemory }
     ensures first { IfErr result (IsFaultOf BeginsFront line bytes.now) }
 {
     form_front(alloc, line, bytes)
@@ -150,11 +150,10 @@ pub fn read_front(alloc: Global, line: u32, bytes: &[u8]) -> Result<(Form, u32, 
 /// docs/FORMATS.md, "Instance text".
 pub fn read_form(alloc: Global, bytes: &[u8]) -> Result<Form, FormFault>
     requires { length bytes.now < 2 ^ 32 }
-    ensures ok { IfOk result (λ form. HasText form.phases.items form.head form.lists.items
-        × (bytes.now ≡ instance_text form.phases.items form.head form.lists.items)) }
-    ensures only { (plan : List Phase) (h : Head) (lists : List (List Cluster))
-        → HasText plan h lists → bytes.now ≡ instance_text plan h lists
-        → MatchResult result (λ form. HasParts form plan h lists) IsOutOfMemory }
+    ensures ok { IfOk result (λ form. IsWritableForm form × (bytes.now ≡ text_of form)) }
+    ensures only { (free : Bool) (plan : List Phase) (h : Head) (lists : List (List Cluster))
+        → HasText plan h lists → IsFreeWhere free plan → bytes.now ≡ whole_text free plan h lists
+        → MatchResult result (λ form. HasParts form free plan h lists) IsOutOfMemory }
     ensures first { IfErr result (IsFaultOf BeginsText 1 bytes.now) }
 {
     let (form, line, rest) = read_front(alloc, 1, bytes)?;
@@ -169,8 +168,8 @@ pub fn read_form(alloc: Global, bytes: &[u8]) -> Result<Form, FormFault>
 ///
 /// docs/FORMATS.md, "Instance text".
 pub fn law_of_instance_texts()
-    ensures { (plan others : List Phase) (h g : Head) (lists queues : List (List Cluster)) (x y : List ℕ)
-        → HasText plan h lists → HasText others g queues
-        → instance_text plan h lists ++ x ≡ instance_text others g queues ++ y
-        → (plan ≡ others) × (h ≡ g) × (lists ≡ queues) × (x ≡ y) }
+    ensures { (free may : Bool) (plan others : List Phase) (h g : Head) (lists queues : List (List Cluster)) (x y : List ℕ)
+        → HasText plan h lists → IsFreeWhere free plan → HasText others g queues → IsFreeWhere may others
+        → whole_text free plan h lists ++ x ≡ whole_text may others g queues ++ y
+        → (free ≡ may) × (plan ≡ others) × (h ≡ g) × (lists ≡ queues) × (x ≡ y) }
 {}

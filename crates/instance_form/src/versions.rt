@@ -1,23 +1,35 @@
 //! Which version of the text says given phases and clusters.
 
 ghost use Rattle.std.specs.Prelude.{◌≡◌};
-ghost use Rattle.instance_form.specs.Versions.{has_marks, has_load, has_loads, version_of};
+ghost use Rattle.instance_form.specs.Versions.{has_marks, has_load, has_loads, says_free, version_of};
 
 use crate::form::Version;
 use foundation::items::Items;
 use phase_plan::Phase;
 use switch_rules::Cluster;
 
-/// The least version that says these phases and clusters.
-pub fn version_of(phases: &[Phase], lists: &[Items<Cluster>]) -> Version
-    ensures { result ≡ version_of phases.now lists.now }
+/// The least version that says these phases and clusters, and whether the ring may be free.
+pub fn version_of(free_ring: bool, phases: &[Phase], lists: &[Items<Cluster>]) -> Version
+    ensures { result ≡ version_of free_ring phases.now lists.now }
 {
-    if has_loads(lists) {
+    if free_ring {
+        Version::Four
+    } else if has_loads(lists) {
         Version::Three
     } else if has_marks(phases) {
         Version::Two
     } else {
         Version::One
+    }
+}
+
+/// Whether the version says that the ring may be free.
+pub fn says_free(version: Version) -> bool
+    ensures { result ≡ says_free version }
+{
+    match version {
+        Version::One | Version::Two | Version::Three => false,
+        Version::Four => true,
     }
 }
 

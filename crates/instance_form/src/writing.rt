@@ -2,7 +2,7 @@
 
 ghost use Rattle.std.specs.Prelude.{◌≡◌, ◌≤◌, [], ◌∷◌, ◌++◌, length, IfOk, OnOk};
 ghost use Rattle.std.specs.List.{flat_map};
-ghost use Rattle.instance_form.specs.InstanceText.{first_line, phase_line, freshness, head_line, cluster_line, cluster_lines, form_text, instance_text};
+ghost use Rattle.instance_form.specs.InstanceText.{first_line, phase_line, freshness, head_line, cluster_line, cluster_lines, form_text, whole_text};
 ghost use Rattle.instance_form.specs.Lines.{marked_end};
 
 use crate::form::Version;
@@ -13,19 +13,21 @@ use std::alloc::{AllocError, Global};
 use switch_rules::{Cluster, Head};
 use text_lines::{Line, push_line, put_numbers};
 
-/// The text of these phases, this head and the clusters of each phase, whatever their numbers. `Err`: out of memory.
+/// The text of these phases, this head and the clusters of each phase, whatever their numbers, which says whether the
+/// ring may be free. `Err`: out of memory.
 ///
 /// docs/FORMATS.md, "Instance text".
-#[tactic(auto, unfolding(crate::specs::InstanceText::form_text, crate::specs::InstanceText::instance_text))]
+#[tactic(auto, unfolding(crate::specs::InstanceText::form_text, crate::specs::InstanceText::whole_text))]
 pub fn write_form(
     alloc: Global,
+    free_ring: bool,
     phases: &[Phase],
     head: &Head,
     lists: &[Items<Cluster>],
 ) -> Result<Vec<u8>, AllocError>
-    ensures { IfOk result (λ text. text.items ≡ instance_text phases.now head.now lists.now) }
+    ensures { IfOk result (λ text. text.items ≡ whole_text free_ring phases.now head.now lists.now) }
 {
-    let version = version_of(phases, lists);
+    let version = version_of(free_ring, phases, lists);
     let mut text = Vec::from_slice(alloc, first_line(version))?;
     push_line(&mut text, b"phases", &[phases.len() as u64])?;
     write_phases(&mut text, version, phases)?;
@@ -43,6 +45,7 @@ fn first_line(version: Version) -> &'static [u8]
         Version::One => b"instance 1\n",
         Version::Two => b"instance 2\n",
         Version::Three => b"instance 3\n",
+        Version::Four => b"instance 4\n",
     }
 }
 
@@ -82,7 +85,9 @@ fn phase_end(version: Version, skip: bool) -> &'static [u8]
 {
     match version {
         Version::One => b"\n",
-        Version::Two | Version::Three => { if skip { b" skip\n" } else { b" ring\n" } }
+        Version::Two | Version::Three | Version::Four => {
+            if skip { b" skip\n" } else { b" ring\n" }
+        }
     }
 }
 
@@ -151,6 +156,10 @@ fn write_cluster(
     let len = u64::from(cluster.len);
     match version {
         Version::One | Version::Two => push_line(text, b"cluster", &[phase, size, arr, len]),
-        Version::Three => push_line(text, b"cluster", &[phase, size, load, arr, len]),
+        Version::Three | Version::Four => push_line(
+            text,
+            b"cluster",
+            &[phase, size, load, arr, len],
+        ),
     }
 }
