@@ -1,14 +1,14 @@
 -- What every decision keeps.
-use Rattle.std.proofs.Common.{◌≡◌, ℕ, ◌+◌, ◌*◌, ◌<◌, ◌≤◌, Bool, true, false, List, [], ◌∷◌, ◌++◌, All, length, map, get_or, refl, sym, ap, subst, ◌∙◌, arith}
-use Rattle.std.specs.Prelude.{◌==◌, if◌then◌else◌, nat_lt}
+use Rattle.std.proofs.Common.{◌≡◌, ℕ, ◌+◌, ◌*◌, ◌<◌, ◌≤◌, Bool, true, false, List, [], ◌∷◌, All, length, map, get_or, refl, sym, ap, subst, ◌∙◌, arith}
+use Rattle.std.specs.Prelude.{◌==◌, if◌then◌else◌}
 use Rattle.std.specs.List.{range_with_len}
-use Rattle.std.proofs.lemmas.Bool.{cond_both, eq-eqb, ltb-false, ne_eqb}
+use Rattle.std.proofs.lemmas.Bool.{eq-eqb, ne_eqb}
 use Rattle.std.proofs.lemmas.List.{ext_get_or, get_or_default}
 use Rattle.std.proofs.lemmas.List.FromFn.{get_or-map-range_with_len, length-map-range_with_len}
 use Rattle.board_model.specs.declared.boards.Heard.{Heard}
 use Rattle.board_model.specs.declared.forecasts.Row.{Row}
 use Rattle.board_model.specs.Forecasts.{IsForecast}
-use Rattle.control_flow.specs.Greens.{BeginBy, end_of, row_at, rows_before, spliced}
+use Rattle.control_flow.specs.Greens.{BeginBy, end_of, row_at}
 use Rattle.control_flow.specs.declared.greens.Green.{Green}
 use Rattle.histories.specs.Steps.{publisher}
 use Rattle.intersection_actor.specs.Commits.{Commitment, IsCommit, IsProblemOf, used_of}
@@ -41,6 +41,7 @@ use Rattle.round_decisions.specs.declared.decisions.Decision.{Decision}
 use Rattle.round_decisions.specs.declared.decisions.NodeDecision.{NodeDecision}
 use Rattle.round_decisions.specs.declared.rounds.Decided.{Decided}
 use Rattle.round_decisions.specs.declared.rounds.Waiting.{Waiting}
+use Rattle.round_decisions.proofs.LineLaws.{spliced-first}
 use Rattle.round_decisions.proofs.SoonLaws.{commit-soon}
 
 -- a board of this round is one of the next, and so is its next version, where this is a forecast
@@ -52,13 +53,6 @@ board-next false round old told is forecast = record { version = (let most = is.
 pub links-on : (boards : ℕ → LinkBoard) (xs : List ℕ) → map (λ (h : Heard). h.link) (map (hearing_on boards) xs) ≡ xs
 links-on boards [] = refl
 links-on boards (x ∷ xs) = ap (λ l. x ∷ l) (links-on boards xs)
-
--- a spliced line begins no later than the old one
-spliced-first : (old next : List Green) → 0 < length old → (row_at (spliced old next) 0).from ≤ (row_at old 0).from
-spliced-first [] next some = absurd (omega arith)
-spliced-first (o ∷ os) [] some = omega arith
-spliced-first (o ∷ os) (row ∷ rows) some = cond_both (nat_lt o.from row.from) (o ∷ rows_before os row.from) [] (λ (l : List Green). (row_at (l ++ row ∷ rows) 0).from ≤ o.from)
-    (λ yes. omega arith) (λ no. ltb-false o.from row.from no)
 
 -- what ends after a second has a row
 some-by : (rows : List Green) (second : ℕ) → second < end_of rows → 0 < length rows
@@ -79,8 +73,8 @@ goes-on net network state asked is n below wanted heard c commit new same later 
     let own : KeepsLine (plan_at net n) (line_of state n) (sensed_of state n).now new = subst (KeepsLine (plan_at net n) (line_of state n) (sensed_of state n).now) (sym same) k in
     let more : begin_of net state.round ≤ begin_of net (state.round + 1) = next-later state.round net.run.step in
     let soon : BeginBy ((sensed_of state n).now + farthest_begin) c.line =
-    commit-soon net network n below state.round (line_of state n) (sensed_of state n) heard c at.sensed.now (record { lawful = line.lawful; begins = line.begins })
-    (subst (λ now. BeginBy (now + farthest_begin) (line_of state n)) (sym at.now) (is.soon n below)) commit in
+    commit-soon net network n below state.round (line_of state n) (sensed_of state n) heard c at.sensed.now (record { lawful = line.lawful; begins = line.begins }) commit
+    (subst (λ now. BeginBy (now + farthest_begin) (line_of state n)) (sym at.now) (is.soon n below)) in
     let first : (row_at new 0).from ≤ (row_at (line_of state n) 0).from =
     subst (λ (l : List Green). (row_at l 0).from ≤ (row_at (line_of state n) 0).from) (sym (same ∙ commit.line)) (spliced-first (line_of state n) c.next line.some) in
     record {

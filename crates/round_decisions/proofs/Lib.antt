@@ -1,7 +1,9 @@
 pub mod Boards
+pub mod ChainLaws
 pub mod DecisionTextLaws
 pub mod HearLaws
 pub mod KeptLaws
+pub mod LeftLaws
 pub mod LineLaws
 pub mod OfRunLaws
 pub mod PlayLaws

@@ -1,10 +1,10 @@
 -- The rows of a line from the last that begins by a second on.
-use Rattle.std.proofs.Common.{◌≡◌, ℕ, zero, suc, ◌+◌, ◌-◌, ◌<◌, ◌≤◌, List, [], ◌∷◌, Some, drop, length, take, refl, sym, ap, subst, ◌∙◌, arith}
-use Rattle.std.specs.Prelude.{if◌then◌else◌, nat_le}
+use Rattle.std.proofs.Common.{◌≡◌, ℕ, zero, suc, ◌+◌, ◌-◌, ◌<◌, ◌≤◌, List, [], ◌∷◌, ◌++◌, Some, drop, length, take, refl, sym, ap, subst, ◌∙◌, arith}
+use Rattle.std.specs.Prelude.{if◌then◌else◌, nat_le, nat_lt}
 use Rattle.std.specs.Option.{option_map}
-use Rattle.std.proofs.lemmas.Bool.{cond_both, le-leb, le-ltb, leb-true}
+use Rattle.std.proofs.lemmas.Bool.{cond_both, le-leb, le-ltb, leb-true, ltb-false}
 use Rattle.std.proofs.lemmas.List.{length-drop, take_all}
-use Rattle.control_flow.specs.Greens.{Follows, IsInOrder, IsLawful, head_at, head_in, row_after, row_at}
+use Rattle.control_flow.specs.Greens.{Follows, IsInOrder, IsLawful, head_at, head_in, row_after, row_at, rows_before, spliced}
 use Rattle.control_flow.specs.declared.greens.Green.{Green}
 use Rattle.phase_plan.specs.declared.Phase.{Phase}
 use Rattle.round_states.specs.States.{IsLineAt}
@@ -77,3 +77,10 @@ from-last second (suc index) (x ∷ rows) past = from-last second index rows (om
 -- the rows from a place on, as a part of the list
 pub part-from : (second first : ℕ) (rows line : List Green) → drop first rows ≡ rows_from second rows → rows ≡ line → take (length rows - first) (drop first rows) ≡ rows_from second line
 part-from second first rows line from same = take_all (length rows - first) (drop first rows) (omega (arith, length-drop first rows)) ∙ from ∙ ap (rows_from second) same
+
+-- a spliced line begins no later than the old one
+pub spliced-first : (old next : List Green) → 0 < length old → (row_at (spliced old next) 0).from ≤ (row_at old 0).from
+spliced-first [] next some = absurd (omega arith)
+spliced-first (o ∷ os) [] some = omega arith
+spliced-first (o ∷ os) (row ∷ rows) some = cond_both (nat_lt o.from row.from) (o ∷ rows_before os row.from) [] (λ (l : List Green). (row_at (l ++ row ∷ rows) 0).from ≤ o.from)
+    (λ yes. omega arith) (λ no. ltb-false o.from row.from no)

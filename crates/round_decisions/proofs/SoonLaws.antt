@@ -81,7 +81,7 @@ since-by plan rows now head most begins e = by (row_after rows now) refl e
         omega (arith, from.0, head_in-since plan now here, ap (λ (x : Head). x.since) same)
 
 module _ (net : Net) (network : IsNetwork net) (node : ℕ) (below : node < length net.node_names) (round : ℕ) (old : List Green) (sensed : Sensed) (heard : List Heard) (c : Commitment)
-    (early : sensed.now ≤ 18000) (line : IsLine (plan_at net node) old) (before : BeginBy (sensed.now + farthest_begin) old) (is : IsCommit net node round old sensed heard c) where
+    (early : sensed.now ≤ 18000) (line : IsLine (plan_at net node) old) (is : IsCommit net node round old sensed heard c) where
   plan : IsPlan (plan_at net node)
   plan = plan-is net network node below
 
@@ -90,9 +90,6 @@ module _ (net : Net) (network : IsNetwork net) (node : ℕ) (below : node < leng
 
   soon-head : IsSoonHead (plan_at net node) c.head
   soon-head = head-of (plan_at net node) old sensed.now c.head line (omega (arith, early)) is.problem.at
-
-  since : c.head.since ≤ sensed.now + farthest_begin
-  since = since-by (plan_at net node) old sensed.now c.head (sensed.now + farthest_begin) before is.problem.at
 
   ready : ArePlannable (cluster_lists c.window.lists)
   ready = plannable c.platoons c.window is.problem.taken net network node below c.head sensed early heard is.problem.expected
@@ -129,12 +126,17 @@ module _ (net : Net) (network : IsNetwork net) (node : ℕ) (below : node < leng
   abbrev until : ℕ
   until = sensed.now + net.run.look
 
-  own : IsLineFrom phases c.head until c.next
+  pub own : IsLineFrom phases c.head until c.next
   own = subst (IsLineFrom phases c.head until) (sym is.next) (answer-line phases c.head until phases-plan phases-head c.answer c.served (omega (arith, soon-head.reach)) servings)
 
-  next-soon : BeginBy (sensed.now + farthest_begin) c.next
-  next-soon = subst (BeginBy (sensed.now + farthest_begin)) (sym is.next) (answer-soon phases c.head until phases-plan phases-head c.answer c.served (sensed.now + farthest_begin) since (omega (arith, look)) servings greens)
+  -- where the rows of the old line begin soon, so do those of the new one
+  module _ (before : BeginBy (sensed.now + farthest_begin) old) where
+    since : c.head.since ≤ sensed.now + farthest_begin
+    since = since-by (plan_at net node) old sensed.now c.head (sensed.now + farthest_begin) before is.problem.at
 
-  pub commit-soon : BeginBy (sensed.now + farthest_begin) c.line
-  commit-soon = subst (BeginBy (sensed.now + farthest_begin)) (sym is.line)
-      ((continued (plan_at net node) old sensed.now c.head c.next plan line.lawful is.problem.at (lawful-round net node sensed c.next own.lawful) own.begin).begins_by (sensed.now + farthest_begin) before next-soon)
+    next-soon : BeginBy (sensed.now + farthest_begin) c.next
+    next-soon = subst (BeginBy (sensed.now + farthest_begin)) (sym is.next) (answer-soon phases c.head until phases-plan phases-head c.answer c.served (sensed.now + farthest_begin) since (omega (arith, look)) servings greens)
+
+    pub commit-soon : BeginBy (sensed.now + farthest_begin) c.line
+    commit-soon = subst (BeginBy (sensed.now + farthest_begin)) (sym is.line)
+        ((continued (plan_at net node) old sensed.now c.head c.next plan line.lawful is.problem.at (lawful-round net node sensed c.next own.lawful) own.begin).begins_by (sensed.now + farthest_begin) before next-soon)

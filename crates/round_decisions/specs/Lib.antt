@@ -1,3 +1,4 @@
+pub mod Chains
 pub mod DecisionTexts
 pub mod Decisions
 pub mod Lines

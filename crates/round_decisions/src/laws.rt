@@ -4,6 +4,7 @@ ghost use Rattle.board_model.specs.declared.boards.Heard.{Heard};
 ghost use Rattle.intersection_actor.specs.Commits.{Commitment};
 ghost use Rattle.round_states.specs.declared.states.RoundState.{RoundState};
 ghost use Rattle.runs.specs.declared.records.RunRecord.{RunRecord};
+ghost use Rattle.round_decisions.specs.Chains.{IsChain, IsChainOf};
 ghost use Rattle.round_decisions.specs.Decisions.{IsDecision};
 ghost use Rattle.round_decisions.specs.OfRuns.{IsRoundIn, IsStateIn, IsTurnRun};
 ghost use Rattle.round_decisions.specs.declared.decisions.Decision.{Decision};
@@ -19,6 +20,19 @@ pub fn law_of_decisions(net: &Network)
         (state : RoundState) (d : Decision)
         → IsTurnRun net.now arriving heard made run → IsStateIn net.now arriving made state → IsDecision net.now state d
         → IsRoundIn net.now heard made state.round d }
+{
+    law_of_network(net);
+}
+
+/// A chain of decisions, each from the lines and boards that the one before it tells, is the run of the turn order: each decision
+/// tells the plan records, lines and forecasts of its round, and the vehicles move as in the run.
+///
+/// docs/RULES.md, "Decision of a round".
+pub fn law_of_chains(net: &Network)
+    ensures { (arriving : ℕ → ℕ → ℕ) (heard : ℕ → ℕ → List Heard) (made : ℕ → ℕ → Commitment) (run : RunRecord)
+        (states : ℕ → RoundState) (decisions : ℕ → Decision)
+        → IsTurnRun net.now arriving heard made run → IsChain net.now arriving states decisions
+        → IsChainOf net.now arriving heard made decisions }
 {
     law_of_network(net);
 }
