@@ -15,7 +15,6 @@ left-is (l ∷ ls) link e = let same : l ≡ link = cc in ap (λ x. x ∷ ls) sa
 
 hears-on : (net : Net) (a : Acting) (h : Heard) → a.want ≡ Read h.link → IsHearing net a → IsHearing net (with_heard h a)
 hears-on net a h wants is = record {
-  round = is.round;
   now = is.now;
   sensed = is.sensed;
   ahead = is.ahead;
@@ -52,8 +51,8 @@ taken a reads h heard want left same wants =
     λ i. record a { want = next i; left = on i; heard = same i }
 
 in-round-without : (net : Net) (a : Acting) (want : Want) → IsInRound net a want → IsInRound net (without_records a) want
-in-round-without net a (Read link) is = record { round = is.round; now = is.now; sensed = is.sensed; ahead = is.ahead; heard = is.heard; want = is.want }
-in-round-without net a Commit is = record { round = is.round; now = is.now; sensed = is.sensed; ahead = is.ahead; heard = is.heard; want = is.want }
+in-round-without net a (Read link) is = record { now = is.now; sensed = is.sensed; ahead = is.ahead; heard = is.heard; want = is.want }
+in-round-without net a Commit is = record { now = is.now; sensed = is.sensed; ahead = is.ahead; heard = is.heard; want = is.want }
 in-round-without net a (Publish link) is = record { link = is.link; now = is.now; platoons = is.platoons; plan = is.plan; head = is.head; served = is.served }
 in-round-without net a Done is = is
 

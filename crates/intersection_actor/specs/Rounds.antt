@@ -24,7 +24,6 @@ use Rattle.intersection_actor.specs.declared.records.Want.TheVariants.{Read, Com
 -- line ends. What it has heard and the links that it has yet to read are, one after another, those on which its node hears, and
 -- it wants the first that is left.
 pub record IsHearing (net : Net) (a : Acting) : Type 0 where
-  pub round : a.round < net.run.rounds
   pub now : a.sensed.now ≡ a.round * net.run.step
   pub sensed : IsSensedOf net a.node a.sensed
   pub ahead : a.sensed.now < end_of a.line

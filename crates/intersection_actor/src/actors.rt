@@ -189,7 +189,7 @@ impl Actor {
     /// Begins a round, in whose first second the node senses this: it wants to read the first link on which it hears another
     /// node, or to plan where it hears none.
     ///
-    /// It has done the round before, the round is one of the network, and some row of its timeline ends after the round's first
+    /// It has done the round before, the round begins by second 18,000, and some row of its timeline ends after the round's first
     /// second. `Err`: out of memory; all stays as it was.
     ///
     /// docs/RULES.md, "A node's round".
@@ -202,7 +202,6 @@ impl Actor {
     ) -> Result<(), AllocError>
         requires of { IsOf net.now self.old }
         requires want { self.old.want ≡ Want.Done }
-        requires round { round < net.now.run.rounds }
         requires sensed { IsSensedOf net.now self.old.node sensed }
         requires now { sensed.now ≡ round * net.now.run.step }
         requires ahead { sensed.now < end_of self.old.line }

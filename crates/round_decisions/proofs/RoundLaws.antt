@@ -5,6 +5,7 @@ use Rattle.std.specs.List.{range_with_len}
 use Rattle.std.proofs.lemmas.Bool.{and_left, cases_lt, cases_order, eq-eqb, eqb-false, eqb-true, le-ltb, lt-ltb, ne_eqb}
 use Rattle.std.proofs.lemmas.List.{get_or-drop}
 use Rattle.std.proofs.lemmas.List.FromFn.{map-range_with_len_more}
+use Rattle.std.proofs.lemmas.Nat.{mul-le}
 use Rattle.std.proofs.Math.Seq.{drop-nil}
 use Rattle.board_model.specs.declared.boards.Heard.{Heard}
 use Rattle.board_model.specs.declared.forecasts.Row.{Row}
@@ -13,6 +14,7 @@ use Rattle.control_flow.specs.declared.greens.Green.{Green}
 use Rattle.histories.specs.Steps.{publisher}
 use Rattle.intersection_actor.specs.Commits.{Commitment, IsCommit, record_of}
 use Rattle.intersection_actor.specs.declared.records.PlanRecord.{PlanRecord}
+use Rattle.net_parts.specs.Limits.{most_seconds}
 use Rattle.net_parts.specs.Numbers.{Net}
 use Rattle.net_parts.specs.Outline.{link_at}
 use Rattle.road_net.specs.Joins.{is_node}
@@ -64,6 +66,10 @@ same-by (Some k) t nodes old f g same = elim (cases_lt k nodes) [
       let e : nat_lt k nodes ≡ false = le-ltb k nodes past in
       ap (λ b. if b && t then next_board old (f k) else old) e ∙ sym (ap (λ b. if b && t then next_board old (g k) else old) e)
 ]
+
+-- as many rounds as there are begin before a second
+few-rounds : (net : Net) → IsNetwork net → (round : ℕ) → begin_of net round < most_seconds → round < 18000
+few-rounds net network round early = (let most = mul-le round 1 round net.run.step (omega arith) network.outline.run.step.0 in omega (arith, most, early))
 
 module _ (net : Net) (state : RoundState) where
   abbrev told_by : (ℕ → Commitment) → ℕ → ℕ → List Row
@@ -156,7 +162,7 @@ module _ (net : Net) (network : IsNetwork net) (state : RoundState) (is : IsStat
       let within : link < length state.boards = omega (arith, h.count) in
       let e : board_of old.boards.items link ≡ board_of state.boards link = h.boards link within ∙ after-none net state h.made n link told in
       let most = (is.boards link no_board within).version in
-      omega (arith, ap (λ (b : LinkBoard). b.version) e, most, is.round, network.outline.run.rounds.1)
+      omega (arith, ap (λ (b : LinkBoard). b.version) e, most, few-rounds net network state.round is.round)
 
   pub can-turn : CanTurn net state.round n (get_or waits.lines.items 0 []) (get_or waits.sensed.items 0 no_sense) old.boards.items
   can-turn =
@@ -164,7 +170,6 @@ module _ (net : Net) (network : IsNetwork net) (state : RoundState) (is : IsStat
       subst (λ (l : List Green). CanTurn net state.round n l (get_or waits.sensed.items 0 no_sense) old.boards.items) (sym own-line)
       (subst (λ (s : Sensed). CanTurn net state.round n (line_of state n) s old.boards.items) (sym own-sensed) (record {
         node_is = less;
-        more = is.round;
         sensed_at = is.sensed n less;
         lawful = line.lawful;
         begins = line.begins;
@@ -249,13 +254,12 @@ can-from-state net network state n is below =
     let line = is.lines n below refl in
     record {
       node_is = below;
-      more = is.round;
       sensed_at = is.sensed n below;
       lawful = line.lawful;
       begins = line.begins;
       ends = line.ends;
       count = is.board_count;
-      below = λ link inside told. (let most = (is.boards link no_board inside).version in omega (arith, most, is.round, network.outline.run.rounds.1));
+      below = λ link inside told. (let most = (is.boards link no_board inside).version in omega (arith, most, few-rounds net network state.round is.round));
     }
 
 pub can-at : (net : Net) → IsNetwork net → (state : RoundState) (n : ℕ) → IsStateOf net (OneNode (Some n)) state → n < length net.node_names → (line : List Green) (sensed : Sensed) (boards : List LinkBoard)

@@ -43,12 +43,11 @@ pub record HasTold (net : Net) (a b : Acting) (old new : List LinkBoard) : Type 
 
 -- on each link on which a node tells another one a further version may be published
 abbrev pub MayTell : Net → ℕ → List LinkBoard → Type 0
-MayTell net node boards = (link : ℕ) → link < length boards → IsTrue (tells net node link) → (board_of boards link).version < 1000
+MayTell net node boards = (link : ℕ) → link < length boards → IsTrue (tells net node link) → (board_of boards link).version < 20000
 
 -- a node may have its turn: what it senses is what its node senses in the round's first second, in which its line goes on
 pub record CanTurn (net : Net) (round node : ℕ) (line : List Green) (sensed : Sensed) (boards : List LinkBoard) : Type 0 where
   pub node_is : node < length net.node_names
-  pub more : round < net.run.rounds
   pub sensed_at : IsSensedAt net (begin_of net round) node sensed
   pub lawful : IsLawful (plan_at net node) line
   pub begins : BeginBy 100000 line

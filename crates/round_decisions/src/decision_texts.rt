@@ -1,10 +1,12 @@
 //! The texts of decisions.
 ghost use Rattle.std.specs.Prelude.{◌≡◌, ◌<◌, ◌≤◌, [], ◌∷◌, IfOk, OnOk, length};
 ghost use Rattle.std.specs.List.{flat_map};
+ghost use Rattle.net_parts.specs.Limits.{most_seconds};
 ghost use Rattle.round_decisions.specs.DecisionTexts as texts;
 ghost use Rattle.round_decisions.specs.DecisionTexts.{IsDecisionOf, IsNodeDecisionOf, decision_records, node_decision_records, turn_records};
 ghost use Rattle.round_decisions.specs.Promises.{decided_line};
 ghost use Rattle.round_states.specs.StateRecords.{header};
+ghost use Rattle.round_states.specs.States.{begin_of};
 ghost use Rattle.world_records.specs.Written.{Adds};
 
 use crate::board_records::write_boards;
@@ -25,7 +27,7 @@ pub fn decision_text(
     round: u32,
     decision: &Decision,
 ) -> Result<Vec<u8>, AllocError>
-    requires round { round < net.now.run.rounds }
+    requires round { begin_of net.now round < most_seconds }
     requires decision { IsDecisionOf net.now decision.now }
     ensures { IfOk result (λ text. text.items ≡ texts.decision_text net.now round decision.now) }
 {
@@ -45,7 +47,7 @@ pub fn node_decision_text(
     node: u32,
     decision: &NodeDecision,
 ) -> Result<Vec<u8>, AllocError>
-    requires round { round < net.now.run.rounds }
+    requires round { begin_of net.now round < most_seconds }
     requires decision { IsNodeDecisionOf net.now decision.now }
     ensures { IfOk result (λ text. text.items ≡ texts.node_decision_text net.now round node decision.now) }
 {
@@ -62,7 +64,7 @@ fn write_decision(
     decision: &Decision,
     out: &mut Writer<Vec<u8>>,
 ) -> Result<(), AllocError>
-    requires round { round < net.now.run.rounds }
+    requires round { begin_of net.now round < most_seconds }
     requires decision { IsDecisionOf net.now decision.now }
     ensures { OnOk result (Adds out.old out.new (decision_records net.now round decision.now)) }
 {
@@ -81,7 +83,7 @@ fn write_node_decision(
     decision: &NodeDecision,
     out: &mut Writer<Vec<u8>>,
 ) -> Result<(), AllocError>
-    requires round { round < net.now.run.rounds }
+    requires round { begin_of net.now round < most_seconds }
     requires decision { IsNodeDecisionOf net.now decision.now }
     ensures { OnOk result (Adds out.old out.new (node_decision_records net.now round node decision.now)) }
 {

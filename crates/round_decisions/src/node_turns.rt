@@ -70,7 +70,7 @@ fn publish(
 ) -> Result<(), AllocError>
     requires of { IsOf net.now actor.old }
     requires want { actor.old.want ≡ Want.Publish link }
-    requires below { board.old.version < 1000 }
+    requires below { board.old.version < 20000 }
     ensures told { OnOk result (actor.new ≡ wanting (tells_from net.now actor.old.node (link + 1)) actor.old) }
     ensures board { OnOk result (board.new ≡ next_board board.old (outgoing net.now actor.old link)) }
     ensures of { IsOf net.now actor.new }

@@ -2,8 +2,8 @@
 use Rattle.std.proofs.Common.{◌≡◌, ℕ, ◌/◌, ◌<◌, ◌≤◌, List, [], ◌∷◌, ◌++◌, length, get_or, take, sym, ◌∙◌, subst, inl, inr, arith, length-append}
 use Rattle.std.proofs.lemmas.Bool.{cases_lt}
 use Rattle.std.proofs.lemmas.List.{take-append-le, take_all}
-use Rattle.std.proofs.lemmas.Nat.{div-add-mod', mul-le}
-use Rattle.std.proofs.Math.Nat.{zero-div, zero-mod}
+use Rattle.std.proofs.lemmas.Nat.{div-add-mod'}
+use Rattle.std.proofs.Math.Nat.{zero-mod}
 use Rattle.std.proofs.Math.Seq.{get_or-append_seam}
 use Rattle.std.proofs.Math.ListN.{get_or-append}
 use Rattle.net_parts.specs.Numbers.{Net}
@@ -42,7 +42,7 @@ first-begin net Ignored is = absurd is
 
 -- a round begins when records in order say so
 pub begin-now : (net : Net) → IsNetwork net → (es : List Entry) → AreInOrder net es → IsBegin net (now_of es)
-begin-now net network [] order = record { round = rw (zero-div net.run.step) (omega (arith, network.outline.run.rounds.0)); step = zero-mod net.run.step }
+begin-now net network [] order = record { early = omega arith; step = zero-mod net.run.step }
 begin-now net network (e ∷ es) order = first-begin net e.content (order 0 e (omega arith))
 
 -- the round that begins in a second begins there
@@ -51,6 +51,4 @@ begin-round net now begin = let e = div-add-mod' now net.run.step in let f = rw 
 
 -- no round begins later
 pub begin-bound : (net : Net) → IsNetwork net → (now : ℕ) → IsBegin net now → now ≤ 18000
-begin-bound net network now begin =
-    let most = mul-le (now / net.run.step) net.run.step 600 30 (omega (arith, begin.round, network.outline.run.rounds.1)) network.outline.run.step.1 in
-    omega (arith, most, begin-round net now begin)
+begin-bound net network now begin = (let early = begin.early in omega arith)

@@ -8,6 +8,7 @@ from .wording import enumeration, meant, thousands
 
 KINDS = ("now", "green", "queue", "coming", "version", "row", "plan")
 MOST_SECOND, MOST_AMOUNT, MOST_ROWS, MOST_SUM, MOST_NUMBER = 100_000, 80_000, 180, 2_000_000_000, 2**32 - 1
+END = 18_000  # seconds: a round begins before
 FARTHEST_BEGIN = 3780  # seconds after the begin of a round
 CELLS: dict[str, dict[int, tuple[str, int | None, int | None]]] = {
     "now": {2: ("x, the second,", 10, None)},
@@ -84,12 +85,12 @@ def name_fault(state: StateFile, number: int) -> list[str]:
 def time_fault(state: StateFile, number: int) -> list[str]:
     """A first row that tells no begin of a round, or a later one out of its time."""
     fields = state.row(number).fields
-    step, rounds = state.run["step"], state.run["rounds"]
+    step = state.run["step"]
     if number == 1 and fields[0] != "now":
         return [state.say(1, "the first row has to be `now`, with the second in which the round begins")]
     if number == 1:
-        words = f"a round begins in a multiple of {step}, the network's step, below {rounds} x {step} = {rounds * step}"
-        return [state.say(1, words)] if int(fields[2]) % step or int(fields[2]) >= rounds * step else []
+        words = f"a round begins in a multiple of {step}, the network's step, below {END}"
+        return [state.say(1, words)] if int(fields[2]) % step or int(fields[2]) >= END else []
     if fields[0] == "now":
         return [state.say(number, "`now` is told in the first row alone")]
     travel, second = state.net.link(fields[1])["travel"], int(fields[2])
