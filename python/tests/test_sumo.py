@@ -99,11 +99,24 @@ class LayoutTest(unittest.TestCase):
         signals = type("Stub", (), {"layout": Layout(CORRIDOR)})
         loop = Loop(signals, ring_answer)
         loop.decide(0, Counter(), Counter())
-        loop.see(["west_in"])
+        loop.see(5, Counter(west_in=2))
         lines = loop.state(5, Counter(west_in=2), Counter({("east_in", 9): 1})).splitlines()
         self.assertEqual(lines[:3], ["kind,name,x,y,z", "now,,5,,", "green,first,0,0,5"])
         wanted = ["queue,west_in,2000,1,", "coming,east_in,9,1000,", "version,first_second,1,,", "row,first_second,40,500,"]
         self.assertEqual(lines[-4:], wanted)
+
+
+    def test_for_how_long_a_queue_has_stood(self):
+        """As in the world: the seconds before the round, back without a break, after which it was there (docs/RULES.md)."""
+        states, signals = [], type("Stub", (), {"layout": Layout(CORRIDOR)})
+        loop = Loop(signals, lambda state: states.append(state) or ring_answer(state))
+        seen = {2: 1, 3: 1, 4: 0, **dict.fromkeys(range(5, 13), 1), 13: 0, **dict.fromkeys(range(14, 21), 1)}
+        for now in range(21):
+            loop.act(now, Counter({"west_in": seen[now]} if seen.get(now) else {}), Counter())
+        rows = [line for state in states for line in state.splitlines() if line.startswith(("now", "queue"))]
+        queue = "queue,west_in,1000"
+        wanted = ["now,,0,,", "now,,5,,", f"{queue},1,", "now,,10,,", f"{queue},6,", "now,,15,,", f"{queue},2,", "now,,20,,", f"{queue},7,"]
+        self.assertEqual(rows, wanted)
 
 
 @unittest.skipUnless(shutil.which("sumo") and shutil.which("netconvert"), "SUMO is not installed")

@@ -39,15 +39,15 @@ class Loop:
         self.told, self.stood = [], Counter()
 
     def act(self, now, queues, coming):
-        """Decides where a round begins, and answers the timelines."""
+        """Decides where a round begins, and answers the timelines. It is called once in each second, in their order."""
+        self.see(now, queues)
         if now % self._step == 0:
             self.decide(now, queues, coming)
-        self.see(queues)
         return self.lines
 
-    def see(self, queues):
-        """Counts one second more for each queue that stands."""
-        self.stood = Counter({link: self.stood[link] + 1 for link in queues})
+    def see(self, now, queues):
+        """Counts for how many of the seconds before this one, back without a break, each queue was there at their end."""
+        self.stood = Counter({link: min(now, self.stood[link] + 1) for link in queues})
 
     def state(self, now, queues, coming):
         """The state of a round as a file of records."""
