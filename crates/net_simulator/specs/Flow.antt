@@ -52,7 +52,7 @@ may_go net shown past x l node =
 abbrev pub is_busy : Net → (ℕ → ℕ → Sign) → (ℕ → ℕ → Cumulative) → ℕ → ℕ → Bool
 is_busy net shown past x l = is_green net shown l x && nat_lt 0 (waiting net past x l)
 
--- what a link discharges at the most in second x, where it may: less while a link to which it gives way is busy
+-- what a link discharges at the most in second x, where it may: `yield_sat` while a link to which it gives way is busy, else `sat`
 abbrev pub rate : Net → (ℕ → ℕ → Sign) → (ℕ → ℕ → Cumulative) → ℕ → ℕ → ℕ
 rate net shown past x l = if list_any (is_busy net shown past x) (yields_at net l) then (link_at net l).yield_sat else (link_at net l).sat
 

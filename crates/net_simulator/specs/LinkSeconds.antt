@@ -10,8 +10,8 @@ use Rattle.net_simulator.specs.Flow.{is_lost}
 use Rattle.net_simulator.specs.LinkGreens.{lit_on, loss_of}
 use Rattle.net_simulator.specs.Rows.{cell, kept_seconds}
 
--- Each link has the second since which it is green, or `never`, under the signs that the nodes had before second x: where nothing changes, it
--- has the same after second x.
+-- For each link that ends at a node, `since` is what it is after second x too, if the nodes show these signs in it: a second up to x where the
+-- link is green under its node's sign, and `never` where it is not.
 abbrev pub AreLit : Net → ℕ → List Sign → List ℕ → Type 0
 AreLit net x signs since =
     (l node : ℕ) → l < length net.link_names → (link_at net l).to ≡ Some node

@@ -34,8 +34,8 @@ pub record FitsSeconds (n : ℕ) (t : LinkTotals) : Type 0 where
   pub left : t.left ≤ n * most_of_all
   pub delay : t.delay ≤ n * most_of_all
 
--- The world has looked at the lights of its second: its signs and greens are of this second already, and all else that it keeps is what it
--- was before, with other signs and greens.
+-- A world stands with some signs and greens in place of its own, which have a place for each node and link. Of what second its own are, this
+-- does not say: they may be of the world's own second, whose lights it has looked at.
 pub record IsLookedAt (net : Net) (arriving : ℕ → ℕ → ℕ) (shown : ℕ → ℕ → Sign) (w : WorldState) : Type 0 where
   pub long : length w.signs ≡ length net.node_names
   pub many : length w.since ≡ length net.link_names

@@ -185,8 +185,8 @@ fn is_one_busy(since: &[u32], ready: &[u32], second: u32, links: &[u32]) -> bool
         .any(|link| is_busy(since, ready, second, *link))
 }
 
-/// What link `l` discharges at the most in a second, where it may: less while a link to which it gives way is busy. `since` has the
-/// second since which each link is green, and `ready` what waits at the end of each.
+/// What link `l` discharges at the most in a second, where it may: its `yield_sat` while a link to which it gives way is busy, else its `sat`.
+/// `since` has the second since which each link is green, and `ready` what waits at the end of each.
 ///
 /// docs/RULES.md, "World".
 pub fn rate(net: &Network, since: &[u32], ready: &[u32], second: u32, l: u32) -> u32

@@ -109,7 +109,8 @@ state_of links second signs since walks totals = record {
   totals = totals;
 }
 
--- The world has looked at the lights of its second: what it keeps of links is what it was before, with other signs and greens.
+-- A world of these links, at this second and with these totals, stands with some signs and greens. Of what is shown in this second it says
+-- nothing.
 pub record IsLookedAt (net : Net) (arriving : ℕ → ℕ → ℕ) (store : ℕ → ℕ) (shown : ℕ → ℕ → Sign) (links : Links) (second : ℕ) (walks : Bool) (totals : SpillTotals) : Type 0 where
   pub signs : List Sign
   pub since : List ℕ

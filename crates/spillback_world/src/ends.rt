@@ -91,7 +91,8 @@ pub(crate) fn let_in(
         + comes_of gate.now.store.now held.old outside.old (arriving_of gate.now.arrivals.now gate.now.second) l }
     ensures here { (l : ℕ) → l < links → cell recent.new l gate.now.second ≡ slice_index entering.now l
         + comes_of gate.now.store.now held.old outside.old (arriving_of gate.now.arrivals.now gate.now.second) l }
-    ensures others { (l y : ℕ) → y % kept_seconds ≢ gate.now.second % kept_seconds → cell recent.new l y ≡ cell recent.old l y }
+    ensures others { (l y : ℕ) → y % kept_seconds ≢ gate.now.second % kept_seconds
+        → cell recent.new l y ≡ cell recent.old l y }
     ensures all { result ≡ total (comes_of gate.now.store.now held.old outside.old
         (arriving_of gate.now.arrivals.now gate.now.second)) links }
 {
