@@ -1,8 +1,8 @@
 -- One second of the code is one second of the past.
 use Rattle.std.specs.List.{list_any}
-use Rattle.std.proofs.Common.{◌≡◌, ◌≢◌, ℕ, suc, ◌+◌, ◌-◌, ◌*◌, ◌%◌, ◌<◌, ◌≤◌, Bool, not, ◌&&◌, ◌||◌, leb, ltb, min, cond, List, [], ◌∷◌, All, Option, Some, None, get_or, length, slice_index, slice_index_or, refl, sym, ap, ◌∙◌, inl, inr, add-one, arith}
+use Rattle.std.proofs.Common.{◌≡◌, ◌≢◌, ℕ, suc, ◌+◌, ◌-◌, ◌*◌, ◌%◌, ◌<◌, ◌≤◌, Bool, true, not, ◌&&◌, ◌||◌, leb, ltb, min, cond, List, [], ◌∷◌, All, Option, Some, None, get_or, length, slice_index, slice_index_or, refl, sym, ap, ◌∙◌, inl, inr, add-one, arith}
 use Rattle.std.proofs.Math.Nat.{add-mod_right}
-use Rattle.std.proofs.lemmas.Bool.{cases_Bool, le-leb, lt-leb, ltb-true}
+use Rattle.std.proofs.lemmas.Bool.{cases_Bool, le-leb, le-ltb, lt-leb, ltb-true}
 use Rattle.std.proofs.lemmas.Bool.Decides.{eqb_tells}
 use Rattle.phase_plan.specs.Phases.{phase_at}
 use Rattle.net_parts.specs.Numbers.{Net}
@@ -38,6 +38,16 @@ pub record HasBounds (net : Net) : Type 0 where
   pub losses : (node k : ℕ) → (phase_at (plan_at net node) k).loss ≤ 10
   pub yields : (l : ℕ) → All (λ m. m < length net.link_names) (yields_at net l)
 
+-- no green loses more
+pub loss-small : (net : Net) → HasBounds net → (node : ℕ) (sign : Sign) → loss_of (plan_at net node) sign ≤ 10
+loss-small net bounds node (On phase since) = bounds.losses node phase
+loss-small net bounds node (Change from to) = bounds.losses node from
+loss-small net bounds node Dark = omega arith
+
+-- a second is open where the green has lasted for as long as it may lose
+pub open-late : (loss from x before : ℕ) → from ≤ x → loss ≤ x - from → true ≡ (leb from x && not (is_lost loss from x before))
+open-late loss from x before begun late = rw (le-leb from x begun, le-ltb x (from + loss) (omega (arith, begun, late))) refl
+
 module _ (net : Net) (x : ℕ) (before : ℕ → ℕ → Cumulative) (qs rs ws : List ℕ) (bounds : HasBounds net) (sound : IsSound net before x) (keeps : Keeps net before qs rs ws x) where
   -- what waits
   pub waits-same : (arrived : List ℕ) → ((l y : ℕ) → y % 128 ≢ x % 128 → cell arrived l y ≡ cell rs l y) → (l : ℕ) → l < length net.link_names → waits_at net qs arrived x l ≡ waiting net before x l
@@ -66,11 +76,6 @@ module _ (net : Net) (x : ℕ) (before : ℕ → ℕ → Cumulative) (qs rs ws :
       let turned = cell-turn ws l (x + 128 - (x - from)) from (omega arith) in
       ap (ltb 0) (sym turned ∙ kept ∙ ap (λ n. queue net before n l) d))
 
-  loss-small : (node : ℕ) (sign : Sign) → loss_of (plan_at net node) sign ≤ 10
-  loss-small node (On phase since) = bounds.losses node phase
-  loss-small node (Change from to) = bounds.losses node from
-  loss-small node Dark = omega arith
-
   -- whether a link is green, by the second since which it is
   lit-tests : (shown : ℕ → ℕ → Sign) (since : List ℕ) (l : ℕ) → x < 4294967295 → slice_index since l ≡ lit_since (is_green net shown l) (x + 1) → leb (slice_index since l) x ≡ is_green net shown l x
   lit-tests shown since l early lit =
@@ -92,7 +97,7 @@ module _ (net : Net) (x : ℕ) (before : ℕ → ℕ → Cumulative) (qs rs ws :
       ap (λ (b : Bool). b && by-code (slice_index since l)) (lit-tests shown since l early lit)
       ∙ and-same (on x) (by-code (slice_index since l)) by-past (λ is.
       ap by-code (here ∙ ap (λ (b : Bool). cond b (begun on x) never) is)
-      ∙ ap not (lost-same l (begun on x) loss h (begun-by on x) (loss-small node (shown x node))))
+      ∙ ap not (lost-same l (begun on x) loss h (begun-by on x) (loss-small net bounds node (shown x node))))
 
   -- how much it discharges at the most
   any-same : (f g : ℕ → Bool) (xs : List ℕ) → All (λ m. f m ≡ g m) xs → list_any f xs ≡ list_any g xs

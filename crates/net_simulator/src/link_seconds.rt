@@ -165,7 +165,11 @@ pub fn is_open(net: &Network, waits: &[u32], shown: &Shown, second: u32, l: u32,
     if from > second {
         return false;
     }
-    second - from >= loss_of(net, node, shown.signs[node as usize]) || rows::at(waits, l, from) == 0
+    // No phase loses more than the first 10 seconds of a green.
+    let lasted = second - from;
+    lasted >= 10
+        || lasted >= loss_of(net, node, shown.signs[node as usize])
+        || rows::at(waits, l, from) == 0
 }
 
 /// Whether a link is busy in a second: it is green, and something waits at its end.
