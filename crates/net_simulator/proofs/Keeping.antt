@@ -48,6 +48,13 @@ loss-small net bounds node Dark = omega arith
 pub open-late : (loss from x before : ℕ) → from ≤ x → loss ≤ x - from → true ≡ (leb from x && not (is_lost loss from x before))
 open-late loss from x before begun late = rw (le-leb from x begun, le-ltb x (from + loss) (omega (arith, begun, late))) refl
 
+-- what waits is told by what entered before this second
+pub waits-kept : (net : Net) → HasBounds net → (x : ℕ) (qs qs' rs rs' : List ℕ) (l : ℕ) → l < length net.link_names → slice_index qs' l ≡ slice_index qs l
+    → ((k y : ℕ) → y % 128 ≢ x % 128 → cell rs' k y ≡ cell rs k y) → waits_at net qs' rs' x l ≡ waits_at net qs rs x l
+waits-kept net bounds x qs qs' rs rs' l h queue others =
+    let same = others l (x + 128 - (link_at net l).travel) (apart x (link_at net l).travel (bounds.some l h) (let most = bounds.most l h in omega arith)) in
+    omega (arith, queue, same)
+
 module _ (net : Net) (x : ℕ) (before : ℕ → ℕ → Cumulative) (qs rs ws : List ℕ) (bounds : HasBounds net) (sound : IsSound net before x) (keeps : Keeps net before qs rs ws x) where
   -- what waits
   pub waits-same : (arrived : List ℕ) → ((l y : ℕ) → y % 128 ≢ x % 128 → cell arrived l y ≡ cell rs l y) → (l : ℕ) → l < length net.link_names → waits_at net qs arrived x l ≡ waiting net before x l

@@ -19,7 +19,7 @@ use Rattle.net_simulator.specs.Moves.{Moves}
 use Rattle.net_simulator.specs.Rows.{cell}
 use Rattle.net_simulator.specs.Counts.{counts_at, no_totals}
 use Rattle.net_simulator.specs.LinkSeconds.{waits_at, stands_on}
-use Rattle.net_simulator.specs.Steps.{goes, goes_out, all_of, counted, FitsSeconds}
+use Rattle.net_simulator.specs.Steps.{goes_at, goes_out, all_of, counted, FitsSeconds}
 use Rattle.net_simulator.specs.Senses.{stood}
 use Rattle.net_simulator.specs.Worlds.{AreShown, WorldState, HasShape, Keeps, Stands, signs_by}
 use Rattle.road_net.proofs.TotalLaws.{total-same, total-le, total-zero}
@@ -77,7 +77,7 @@ pub record IsStep (net : Net) (arriving : ℕ → ℕ) (x : ℕ) (rs1 ready lv :
   pub arrives : (l : ℕ) → l < length net.link_names → cell rs1 l x ≡ arriving l
   pub arrives-others : (l y : ℕ) → y % 128 ≢ x % 128 → cell rs1 l y ≡ cell w.recent l y
   pub gathers : (l : ℕ) → l < length net.link_names → slice_index ready l ≡ waits_at net w.queues rs1 x l
-  pub leaves : (l : ℕ) → l < length net.link_names → slice_index lv l ≡ goes net v.signs v.since w.waits ready x l (link_at net l).to
+  pub leaves : (l : ℕ) → l < length net.link_names → slice_index lv l ≡ goes_at net v.signs v.since w.waits ready x l
   pub queues : (l : ℕ) → l < length net.link_names → slice_index v.queues l ≡ slice_index ready l - slice_index lv l
   pub enters : (l : ℕ) → l < length net.link_names → cell v.recent l x ≡ cell rs1 l x + total (λ k. split_of (turns_at net k) (slice_index lv k) l) (length net.link_names)
   pub enters-others : (l y : ℕ) → y % 128 ≢ x % 128 → cell v.recent l y ≡ cell rs1 l y
@@ -114,26 +114,26 @@ module _ (net : Net) (network : IsNetwork net) (arriving : ℕ → ℕ → ℕ) 
   room-leave rs1 others l h = omega (arith, waits-now rs1 others l h, waits-most net network moves past course arrivals w.second l h)
 
   -- what leaves in this second
-  pub leaves-now : (signs : List Sign) (since rs1 ready lv : List ℕ) → w.second < 18000 → ((n : ℕ) → n < length net.node_names → slice_index_or signs n Dark ≡ sign_at (lines n) w.second)
+  pub leaves-now : (signs : List Sign) (since rs1 ready : List ℕ) (lv : ℕ → ℕ) → w.second < 18000 → ((n : ℕ) → n < length net.node_names → slice_index_or signs n Dark ≡ sign_at (lines n) w.second)
       → ((l : ℕ) → l < length net.link_names → slice_index since l ≡ lit_since (is_green net (signs_by lines) l) (w.second + 1))
       → ((l y : ℕ) → y % 128 ≢ w.second % 128 → cell rs1 l y ≡ cell w.recent l y)
       → ((l : ℕ) → l < length net.link_names → slice_index ready l ≡ waits_at net w.queues rs1 w.second l)
-      → ((l : ℕ) → l < length net.link_names → slice_index lv l ≡ goes net signs since w.waits ready w.second l (link_at net l).to)
-      → (l : ℕ) → l < length net.link_names → slice_index lv l ≡ discharge net (signs_by lines) before w.second l
+      → ((l : ℕ) → l < length net.link_names → lv l ≡ goes_at net signs since w.waits ready w.second l)
+      → (l : ℕ) → l < length net.link_names → lv l ≡ discharge net (signs_by lines) before w.second l
   leaves-now signs since rs1 ready lv early seen lit others gathers leaves l h =
       leaves l h ∙ goes-same net w.second before w.queues w.recent w.waits (bounds-of net network) sound stands.keeps (signs_by lines) signs since ready (omega (arith, early)) lit
       (seen-by signs (length net.node_names) lines w.second seen) (λ k b. gathers k b ∙ waits-now rs1 others k b) l h
 
   -- what enters in this second, by what the code keeps
-  pub enters-now : (lv : List ℕ) → ((l : ℕ) → l < length net.link_names → slice_index lv l ≡ discharge net (signs_by lines) before w.second l)
-      → (l : ℕ) → arriving w.second l + total (λ k. split_of (turns_at net k) (slice_index lv k) l) (length net.link_names) ≡ entered_in net (arriving w.second) (signs_by lines) before w.second l
+  pub enters-now : (lv : ℕ → ℕ) → ((l : ℕ) → l < length net.link_names → lv l ≡ discharge net (signs_by lines) before w.second l)
+      → (l : ℕ) → arriving w.second l + total (λ k. split_of (turns_at net k) (lv k) l) (length net.link_names) ≡ entered_in net (arriving w.second) (signs_by lines) before w.second l
   enters-now lv leaves l =
-      let same = total-same (λ k. split_of (turns_at net k) (slice_index lv k) l) (λ k. split_of (turns_at net k) (discharge net (signs_by lines) before w.second k) l) (length net.link_names) (λ k b. ap (λ a. split_of (turns_at net k) a l) (leaves k b)) in
+      let same = total-same (λ k. split_of (turns_at net k) (lv k) l) (λ k. split_of (turns_at net k) (discharge net (signs_by lines) before w.second k) l) (length net.link_names) (λ k b. ap (λ a. split_of (turns_at net k) a l) (leaves k b)) in
       omega (arith, same)
 
-  pub room-enter : (rs1 lv : List ℕ) → ((l : ℕ) → l < length net.link_names → slice_index lv l ≡ discharge net (signs_by lines) before w.second l)
+  pub room-enter : (rs1 : List ℕ) (lv : ℕ → ℕ) → ((l : ℕ) → l < length net.link_names → lv l ≡ discharge net (signs_by lines) before w.second l)
       → ((l : ℕ) → l < length net.link_names → cell rs1 l w.second ≡ arriving w.second l)
-      → (l : ℕ) → l < length net.link_names → cell rs1 l w.second + total (λ k. split_of (turns_at net k) (slice_index lv k) l) (length net.link_names) < 4294967296
+      → (l : ℕ) → l < length net.link_names → cell rs1 l w.second + total (λ k. split_of (turns_at net k) (lv k) l) (length net.link_names) < 4294967296
   room-enter rs1 lv leaves here l h = omega (arith, here l h, enters-now lv leaves l, entering-most net network arriving (signs_by lines) arrivals w.second l h)
 
   -- what the totals may become in this second
@@ -163,14 +163,14 @@ module _ (net : Net) (network : IsNetwork net) (arriving : ℕ → ℕ → ℕ) 
       let S : ℕ → ℕ → Sign = signs_by lines in
       let Q : ℕ → ℕ → Cumulative = cumulative_under net arriving S (x + 1) in
       let on : Continues net (moves x) x before Q = next-one net moves past course x in
-      let leaves = leaves-now v.signs v.since rs1 ready lv below seen lit step.arrives-others step.gathers step.leaves in
+      let leaves = leaves-now v.signs v.since rs1 ready (slice_index lv) below seen lit step.arrives-others step.gathers step.leaves in
       let recent : (l : ℕ) → l < length net.link_names → cell v.recent l x ≡ arriving x l + total (λ k. split_of (turns_at net k) (slice_index lv k) l) (length net.link_names) = λ l h. omega (arith, step.enters l h, step.arrives l h) in
       let keeps : Keeps net Q v.queues v.recent v.waits (x + 1) =
       keeps-next net (moves x) x before Q w.queues w.recent w.waits (bounds-of net network) on stands.keeps lv v.queues v.recent v.waits leaves
       (λ l h. step.queues l h ∙ ap (λ n. n - slice_index lv l) (step.gathers l h ∙ waits-now rs1 step.arrives-others l h)) recent (λ l y ne. step.enters-others l y ne ∙ step.arrives-others l y ne) step.remembers step.remembers-others in
       let kept : (l y : ℕ) → y ≤ x → queue net Q y l ≡ queue net before y l = λ l y h. kept-queue net (moves x) x before Q w.queues w.recent w.waits (bounds-of net network) on stands.keeps y l h in
       let entered : (l : ℕ) → l < length net.link_names → (counts_at v.counts l).entered ≡ (Q (x + 1) l).entered = λ l h.
-      omega (arith, ap (λ (q : LinkTotals). q.entered) (step.counts l h), ap (λ (q : LinkTotals). q.entered) (stands.counts l h), ap (λ (q : Cumulative). q.entered) (on.next l h), recent l h, enters-now lv leaves l) in
+      omega (arith, ap (λ (q : LinkTotals). q.entered) (step.counts l h), ap (λ (q : LinkTotals). q.entered) (stands.counts l h), ap (λ (q : Cumulative). q.entered) (on.next l h), recent l h, enters-now (slice_index lv) leaves l) in
       let left : (l : ℕ) → l < length net.link_names → (counts_at v.counts l).left ≡ (Q (x + 1) l).left = λ l h.
       omega (arith, ap (λ (q : LinkTotals). q.left) (step.counts l h), ap (λ (q : LinkTotals). q.left) (stands.counts l h), ap (λ (q : Cumulative). q.left) (on.next l h), leaves l h) in
       let delays : (l : ℕ) → l < length net.link_names → (counts_at v.counts l).delay ≡ delay net Q (x + 1) l = λ l h.

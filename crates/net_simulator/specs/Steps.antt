@@ -16,6 +16,10 @@ abbrev pub goes : Net → List Sign → List ℕ → List ℕ → List ℕ → �
 goes net signs since waits ready x l None = slice_index ready l
 goes net signs since waits ready x l (Some node) = if is_open net waits since x l node (slice_index_or signs node Dark) then min (rate_by net since ready x l) (slice_index ready l) else 0
 
+-- what link l discharges, by the node where it ends
+abbrev pub goes_at : Net → List Sign → List ℕ → List ℕ → List ℕ → ℕ → ℕ → ℕ
+goes_at net signs since waits ready x l = goes net signs since waits ready x l (link_at net l).to
+
 -- what leaves the network, where links discharge this
 abbrev pub goes_out : Net → List ℕ → ℕ
 goes_out net leaving = total (λ l. outward (link_at net l).to (slice_index leaving l)) (length net.link_names)

@@ -7,7 +7,7 @@ ghost use Rattle.arrivals.specs.Amounts.{arriving_of};
 ghost use Rattle.net_simulator.specs.Counts.{counts_at};
 ghost use Rattle.net_simulator.specs.LinkSeconds.{waits_at};
 ghost use Rattle.net_simulator.specs.Rows.{cell, kept_seconds};
-ghost use Rattle.net_simulator.specs.Steps.{goes, goes_out, all_of, counted, FitsSeconds};
+ghost use Rattle.net_simulator.specs.Steps.{goes_at, goes_out, all_of, counted, FitsSeconds};
 ghost use Rattle.net_simulator.specs.Sums as sums;
 ghost use Rattle.road_net.specs.Joins.{split_of};
 ghost use Rattle.road_net.specs.Totals.{total};
@@ -30,20 +30,33 @@ fn amount_from(amounts: &[u32], first: u32, l: u32) -> u32
     amounts.get((l - first) as usize).copied().unwrap_or(0)
 }
 
-/// Begins a second: what comes from outside enters. Tells how much that is.
-pub(crate) fn arrive(recent: &mut [u32], links: u32, arrivals: &Arrivals, second: u32) -> u64
-    requires recent { length recent.old ≡ links * kept_seconds }
+/// Begins a second: what comes from outside enters, and what reaches the ends of links joins their queues, which then are what waits there.
+/// Tells how much comes from outside.
+pub(crate) fn arrive(
+    recent: &mut [u32],
+    queues: &mut [u32],
+    net: &Network,
+    arrivals: &Arrivals,
+    second: u32,
+) -> u64
+    requires recent { length recent.old ≡ length net.now.link_names * kept_seconds }
+    requires queues { length queues.old ≡ length net.now.link_names }
     requires second { second < most_seconds }
-    ensures here { (l : ℕ) → l < links → cell recent.new l second ≡ arriving_of arrivals.now second l }
+    requires fits { (l : ℕ) → l < length net.now.link_names → waits_at net.now queues.old recent.old second l < 2 ^ 32 }
+    ensures here { (l : ℕ) → l < length net.now.link_names
+        → cell recent.new l second ≡ arriving_of arrivals.now second l }
     ensures others { (l y : ℕ) → y % kept_seconds ≢ second % kept_seconds → cell recent.new l y ≡ cell recent.old l y }
-    ensures all { result ≡ total (λ l. arriving_of arrivals.now second l) links }
+    ensures all { result ≡ total (λ l. arriving_of arrivals.now second l) (length net.now.link_names) }
+    ensures queues { (l : ℕ) → l < length net.now.link_names
+        → slice_index queues.new l ≡ waits_at net.now queues.old recent.new second l }
 {
     let first = arrivals.first_link();
     let row = arrivals.in_second(second);
     let mut all = 0;
-    for l in 0..links {
+    for l in 0..net.links() {
         let amount = amount_from(row, first, l);
         rows::put(recent, l, second, amount);
+        queues[l as usize] = waiting_amount(net, queues, recent, second, l);
         all += u64::from(amount);
     }
     all
@@ -56,8 +69,8 @@ fn goes(net: &Network, waits: &[u32], shown: &Shown, ready: &[u32], second: u32,
     requires since { length shown.now.since.now ≡ length net.now.link_names }
     requires waits { length waits.now ≡ length net.now.link_names * kept_seconds }
     requires ready { length ready.now ≡ length net.now.link_names }
-    ensures value { result ≡ goes net.now shown.now.signs.now shown.now.since.now waits.now ready.now second l
-        (link_at net.now l).to }
+    ensures value { result ≡
+        goes_at net.now shown.now.signs.now shown.now.since.now waits.now ready.now second l }
     ensures most { result ≤ slice_index ready.now l }
 {
     let waiting = ready[l as usize];
@@ -71,56 +84,6 @@ fn goes(net: &Network, waits: &[u32], shown: &Shown, ready: &[u32], second: u32,
         waiting.min(rate(net, shown.since, ready, second, l))
     } else {
         0
-    }
-}
-
-/// Adds to the queues what reaches the ends of links in this second: then they are what waits there.
-pub(crate) fn gather(queues: &mut [u32], net: &Network, recent: &[u32], second: u32)
-    requires queues { length queues.old ≡ length net.now.link_names }
-    requires recent { length recent.now ≡ length net.now.link_names * kept_seconds }
-    requires second { second < most_seconds }
-    requires fits { (l : ℕ) → l < length net.now.link_names → waits_at net.now queues.old recent.now second l < 2 ^ 32 }
-    ensures { (l : ℕ) → l < length net.now.link_names
-        → slice_index queues.new l ≡ waits_at net.now queues.old recent.now second l }
-{
-    for l in 0..net.links() {
-        queues[l as usize] = waiting_amount(net, queues, recent, second, l);
-    }
-}
-
-/// Each link discharges what it may of what waits at its end; `ready` has what waits at the end of each link.
-pub(crate) fn leave(
-    leaving: &mut [u32],
-    net: &Network,
-    waits: &[u32],
-    shown: &Shown,
-    ready: &[u32],
-    second: u32,
-)
-    requires leaving { length leaving.old ≡ length net.now.link_names }
-    requires waits { length waits.now ≡ length net.now.link_names * kept_seconds }
-    requires signs { length shown.now.signs.now ≡ length net.now.node_names }
-    requires since { length shown.now.since.now ≡ length net.now.link_names }
-    requires ready { length ready.now ≡ length net.now.link_names }
-    ensures leaving { (l : ℕ) → l < length net.now.link_names → slice_index leaving.new l ≡
-        goes net.now shown.now.signs.now shown.now.since.now waits.now ready.now second l (link_at net.now l).to }
-    ensures most { (l : ℕ) → l < length net.now.link_names → slice_index leaving.new l ≤ slice_index ready.now l }
-{
-    for l in 0..net.links() {
-        leaving[l as usize] = goes(net, waits, shown, ready, second, l);
-    }
-}
-
-/// What has left the ends of links is no longer in their queues.
-pub(crate) fn settle(queues: &mut [u32], leaving: &[u32], links: u32)
-    requires queues { length queues.old ≡ links }
-    requires leaving { length leaving.now ≡ links }
-    requires most { (l : ℕ) → l < links → slice_index leaving.now l ≤ slice_index queues.old l }
-    ensures { (l : ℕ) → l < links
-        → slice_index queues.new l ≡ slice_index queues.old l - slice_index leaving.now l }
-{
-    for l in 0..links {
-        queues[l as usize] -= leaving[l as usize];
     }
 }
 
@@ -160,23 +123,55 @@ fn turn(recent: &mut [u32], net: &Network, l: u32, amount: u32, second: u32) -> 
     outward(net.link(l).to, amount)
 }
 
-/// What all links discharge enters the links into which it turns. Tells how much leaves the network.
-pub(crate) fn enter(recent: &mut [u32], net: &Network, leaving: &[u32], second: u32) -> u64
+/// Each link discharges what it may of what waits at its end, and that enters the links into which it turns; `ready` has what waits at the end of
+/// each link. Tells how much leaves the network.
+pub(crate) fn discharge(
+    leaving: &mut [u32],
+    recent: &mut [u32],
+    net: &Network,
+    waits: &[u32],
+    shown: &Shown,
+    ready: &[u32],
+    second: u32,
+) -> u64
+    requires leaving { length leaving.old ≡ length net.now.link_names }
     requires recent { length recent.old ≡ length net.now.link_names * kept_seconds }
-    requires leaving { length leaving.now ≡ length net.now.link_names }
+    requires waits { length waits.now ≡ length net.now.link_names * kept_seconds }
+    requires signs { length shown.now.signs.now ≡ length net.now.node_names }
+    requires since { length shown.now.since.now ≡ length net.now.link_names }
+    requires ready { length ready.now ≡ length net.now.link_names }
     requires fits { (k : ℕ) → k < length net.now.link_names → cell recent.old k second
-        + total (λ l. split_of (turns_at net.now l) (slice_index leaving.now l) k) (length net.now.link_names)
-        < 2 ^ 32 }
+        + total (λ l. split_of (turns_at net.now l)
+        (goes_at net.now shown.now.signs.now shown.now.since.now waits.now ready.now second l) k)
+        (length net.now.link_names) < 2 ^ 32 }
+    ensures leaving { (l : ℕ) → l < length net.now.link_names → slice_index leaving.new l ≡
+        goes_at net.now shown.now.signs.now shown.now.since.now waits.now ready.now second l }
+    ensures most { (l : ℕ) → l < length net.now.link_names → slice_index leaving.new l ≤ slice_index ready.now l }
     ensures here { (k : ℕ) → k < length net.now.link_names → cell recent.new k second ≡ cell recent.old k second
-        + total (λ l. split_of (turns_at net.now l) (slice_index leaving.now l) k) (length net.now.link_names) }
+        + total (λ l. split_of (turns_at net.now l) (slice_index leaving.new l) k) (length net.now.link_names) }
     ensures others { (k y : ℕ) → y % kept_seconds ≢ second % kept_seconds → cell recent.new k y ≡ cell recent.old k y }
-    ensures out { result ≡ goes_out net.now leaving.now }
+    ensures out { result ≡ goes_out net.now leaving.new }
 {
     let mut out = 0;
     for l in 0..net.links() {
-        out += u64::from(turn(recent, net, l, leaving[l as usize], second));
+        let amount = goes(net, waits, shown, ready, second, l);
+        leaving[l as usize] = amount;
+        out += u64::from(turn(recent, net, l, amount, second));
     }
     out
+}
+
+/// What has left the ends of links is no longer in their queues.
+pub(crate) fn settle(queues: &mut [u32], leaving: &[u32], links: u32)
+    requires queues { length queues.old ≡ links }
+    requires leaving { length leaving.now ≡ links }
+    requires most { (l : ℕ) → l < links → slice_index leaving.now l ≤ slice_index queues.old l }
+    ensures { (l : ℕ) → l < links
+        → slice_index queues.new l ≡ slice_index queues.old l - slice_index leaving.now l }
+{
+    for l in 0..links {
+        queues[l as usize] -= leaving[l as usize];
+    }
 }
 
 /// Counts what passed each link in this second. Tells how much waits after it.

@@ -349,15 +349,13 @@ fn pass_second<T: Lights>(
     let x = moment.second;
     let totals = &moment.totals;
     let links = net.links();
-    let arriving = seconds::arrive(recent, links, moment.arrivals, x);
+    let arriving = seconds::arrive(recent, queues, net, moment.arrivals, x);
     let shown = Shown {
         signs: moment.signs,
         since: moment.since,
     };
-    seconds::gather(queues, net, recent, x);
-    seconds::leave(leaving, net, waits, &shown, queues, x);
+    let out = seconds::discharge(leaving, recent, net, waits, &shown, queues, x);
     seconds::settle(queues, leaving, links);
-    let out = seconds::enter(recent, net, leaving, x);
     remember(waits, stood, queues, links, x + 1);
     let waiting = seconds::count(counts, recent, leaving, queues, links, x);
     let entered = totals.entered + arriving;
