@@ -19,13 +19,19 @@ pub(crate) struct Site<'a> {
     pub(crate) rates: &'a [u32],
 }
 
-/// Adds the parts of what link `l` discharges to the amounts of its exits.
-fn give(amounts: &mut [u32], net: &Network, l: u32, amount: u32)
+/// Adds the parts of what link `l` discharges to what entered its exits, and to what is on them.
+fn give(entering: &mut [u32], held: &mut [u32], net: &Network, l: u32, amount: u32)
     requires link { l < length net.now.link_names }
-    requires amounts { length amounts.old ≡ length net.now.link_names }
+    requires entering { length entering.old ≡ length net.now.link_names }
+    requires held { length held.old ≡ length net.now.link_names }
     requires fits { (k : ℕ) → k < length net.now.link_names
-        → slice_index amounts.old k + split_of (turns_at net.now l) amount k < 2 ^ 32 }
-    ensures { (k : ℕ) → slice_index amounts.new k ≡ slice_index amounts.old k + split_of (turns_at net.now l) amount k }
+        → slice_index entering.old k + split_of (turns_at net.now l) amount k < 2 ^ 32 }
+    requires holds { (k : ℕ) → k < length net.now.link_names
+        → slice_index held.old k + split_of (turns_at net.now l) amount k < 2 ^ 32 }
+    ensures entering { (k : ℕ) → slice_index entering.new k ≡
+        slice_index entering.old k + split_of (turns_at net.now l) amount k }
+    ensures held { (k : ℕ) → slice_index held.new k ≡
+        slice_index held.old k + split_of (turns_at net.now l) amount k }
 {
     if amount == 0 {
         return;
@@ -33,7 +39,8 @@ fn give(amounts: &mut [u32], net: &Network, l: u32, amount: u32)
     let mut before = 0;
     for turn in net.turns(l) {
         let part = part_of_turn(amount, before, turn.share);
-        amounts[turn.exit as usize] += part;
+        entering[turn.exit as usize] += part;
+        held[turn.exit as usize] += part;
         before += turn.share;
     }
 }
@@ -88,8 +95,7 @@ fn discharge_link(
     leaving[place] = amount;
     queues[place] -= amount;
     held[place] -= amount;
-    give(entering, site.net, l, amount);
-    give(held, site.net, l, amount);
+    give(entering, held, site.net, l, amount);
 }
 
 /// The links discharge in their order, each what it may of its queue, once what leaves the network has left.

@@ -12,5 +12,5 @@ returns c =
     let (node, to) = some-of (link_at net c.args.l).to (ap (λ (k : Link). is_some k.to) (sym c.link.ensures.value) ∙ c.is_none.ensures ∙ ap not c.if-is_none.false) in
     discharge-in net c.args.site.now.store.now c.args.site.now.rates.now c.args.l c.args.leaving.now c.args.queues.now c.args.entering.now c.args.held.now c.requires.links c.requires.held
     node c.amount_of-amount.result c.requires.link to c.amount_of-amount.ensures.value c.amount_of-amount.ensures.most c.amount_of-amount.ensures.fits _ _ _ _ refl refl
-    (c.give.auto.amounts ∙ c.requires.links.entering)
-    (c.give-2.auto.amounts ∙ length-set c.args.held.now c.args.l _ ∙ c.requires.links.held) c.give.ensures c.give-2.ensures
+    (c.give.auto.entering ∙ c.requires.links.entering)
+    (c.give.auto.held ∙ length-set c.args.held.now c.args.l _ ∙ c.requires.links.held) c.give.ensures.entering c.give.ensures.held

@@ -7,6 +7,7 @@ use Rattle.spillback_world.proofs.discharges.give.Given as goal
 -- the parts of the turns so far were added
 abbrev pub invariant-loop-turn : goal.invariant-loop-turn
 invariant-loop-turn l = record {
-  given : AreTurned (turns_at l.net l.l) l.amount l.turn-index (slice_index l.initial.amounts) (slice_index l.amounts);
+  entering : AreTurned (turns_at l.net l.l) l.amount l.turn-index (slice_index l.initial.entering) (slice_index l.entering);
+  held : AreTurned (turns_at l.net l.l) l.amount l.turn-index (slice_index l.initial.held) (slice_index l.held);
   before : l.before ≡ shares_to (turns_at l.net l.l) l.turn-index;
 }
