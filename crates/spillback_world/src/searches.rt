@@ -74,6 +74,9 @@ pub(crate) fn allowed(net: &Network, store: &Store, held: &[u32], l: u32, wish: 
     ensures most { result ≤ wish }
     ensures fits { (k : ℕ) → split_of (turns_at net.now l) result k ≤ room_of store.now held.now k }
 {
+    if wish == 0 {
+        return 0;
+    }
     for below in (0..first_try(net, store, held, l, wish)).rev() {
         if has_room(net, store, held, l, below + 1) {
             return below + 1;
