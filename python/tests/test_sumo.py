@@ -105,6 +105,15 @@ class LayoutTest(unittest.TestCase):
         wanted = ["queue,west_in,2000,1,", "coming,east_in,9,1000,", "version,first_second,1,,", "row,first_second,40,500,"]
         self.assertEqual(lines[-4:], wanted)
 
+    def test_what_was_told_is_given_back(self):
+        signals = type("Stub", (), {"layout": Layout(CORRIDOR)})
+        states = []
+        loop = Loop(signals, lambda state: states.append(state) or ring_answer(state))
+        loop.act(0, Counter(), Counter())
+        loop.act(5, Counter(), Counter())
+        self.assertNotIn("version", states[0])
+        self.assertEqual(states[1].splitlines()[-2:], ["version,first_second,1,,", "row,first_second,40,500,"])
+
 
     def test_for_how_long_a_queue_has_stood(self):
         """As in the world: the seconds before the round, back without a break, after which it was there (docs/RULES.md)."""

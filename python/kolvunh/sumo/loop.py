@@ -62,8 +62,9 @@ class Loop:
     def decide(self, now, queues, coming):
         """Asks the program for a round; its greens go on where the rows that began before them end."""
         answered = defaultdict(list)
+        answer = self.ask(self.state(now, queues, coming))
         self.told = []
-        for row in csv.DictReader(io.StringIO(self.ask(self.state(now, queues, coming)))):
+        for row in csv.DictReader(io.StringIO(answer)):
             if row["kind"] == "green":
                 answered[row["name"]].append((int(row["x"]), int(row["y"]), int(row["z"])))
             elif row["kind"] in ("version", "row"):
