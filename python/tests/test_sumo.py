@@ -9,7 +9,7 @@ from collections import Counter
 from pathlib import Path
 
 from kolvunh.sumo.layout import SUMO_HOME, Layout, read_places, read_tables, state_at, vehicles
-from kolvunh.sumo.loop import Loop, Sensors, run_loop, seconds_to_end
+from kolvunh.sumo.loop import Loop, Sensors, repeat_arrivals, run_loop, seconds_to_end
 from kolvunh.sumo.measures import differences, outcome, run_words
 from kolvunh.sumo.to_sumo import convert, element, report_programs, write_routes
 
@@ -113,6 +113,30 @@ class LayoutTest(unittest.TestCase):
         loop.act(5, Counter(), Counter())
         self.assertNotIn("version", states[0])
         self.assertEqual(states[1].splitlines()[-2:], ["version,first_second,1,,", "row,first_second,40,500,"])
+
+    def test_the_origin_moves(self):
+        """A loop that goes on after five hours tells the state of second 18,000 as one of second 10,800: all seconds 7,200 less."""
+        signals = type("Stub", (), {"layout": Layout(CORRIDOR)})
+        loop, states = Loop(signals, ring_answer), []
+        loop.ask = lambda state: states.append(state) or ring_answer(state)
+        loop.lines = {name: [(0, 17_970, 17_998), (1, 18_003, 18_013)] for name in loop.lines}
+        loop.told = [("version", "first_second", 3600, "", ""), ("row", "first_second", 18_040, 500, "")]
+        loop.stood = Counter(west_in=12_000)
+        lines = loop.act(18_000, Counter(west_in=2), Counter({("east_in", 18_009): 1}))
+        rows = states[0].splitlines()
+        self.assertEqual(rows[1:4], ["now,,10800,,", "green,first,0,10770,10798", "green,first,1,10803,10813"])
+        wanted = ["queue,west_in,2000,10800,", "coming,east_in,10809,1000,", "version,first_second,2160,,", "row,first_second,10840,500,"]
+        self.assertEqual(rows[-4:], wanted)
+        self.assertEqual(lines["first"][:2], [(0, 17_970, 17_998), (1, 18_003, 18_013)])
+        # what is answered is told from the moved second 0 on
+        self.assertEqual(loop.told, [("version", "first_second", 1441, "", ""), ("row", "first_second", 7240, "500", "")])
+
+    def test_arrivals_come_again(self):
+        with tempfile.TemporaryDirectory() as folder:
+            path, to = Path(folder) / "arrivals.csv", Path(folder) / "again.csv"
+            path.write_text("second,link,amount\n1,a,1000\n9,b,500\n")
+            repeat_arrivals(path, 10, 25, to)
+            self.assertEqual(to.read_text(), "second,link,amount\n1,a,1000\n9,b,500\n11,a,1000\n19,b,500\n21,a,1000\n")
 
 
     def test_for_how_long_a_queue_has_stood(self):

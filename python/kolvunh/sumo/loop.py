@@ -1,11 +1,12 @@
 """Lets the program decide for SUMO's signals: senses SUMO's vehicles in each round, asks `decide`, shows the greens.
 
-    tools/sumo/loop.py NET PLACES ARR DIR [--seed N] [--program WORDS]
+    tools/sumo/loop.py NET PLACES ARR DIR [--seed N] [--hours H] [--program WORDS]
 
 PLACES is that of to_sumo.py, or `-`. A vehicle joins the queue of its entry link in the first second in which it is slower than
 5 m/s there, and is in it until it leaves the link. Any other is coming, and reaches the end of its link as fast as it can
 speed up. Signals are set second by second. Afterwards what SUMO showed is compared with the greens that the program answered:
-the exit status is 1 where they differ. DIR/greens.csv has these greens as a report has them. Nothing here is proved.
+the exit status is 1 where they differ. DIR/greens.csv has these greens as a report has them. With --hours it runs for so long in
+place of the network's rounds, and the vehicles of ARR come again each time that these are over. Nothing here is proved.
 """
 
 import contextlib
@@ -14,9 +15,11 @@ import io
 import shlex
 import subprocess
 import sys
+from bisect import bisect_right
 from collections import Counter, defaultdict
 from pathlib import Path
 
+from ..arrivals import Arrival, arrivals_text, read_arrivals
 from ..commands import Words, end
 from ..faults import Fault
 from ..programs import built_program_words
@@ -28,13 +31,43 @@ sys.path.append(f"{SUMO_HOME}/tools")
 SLOW = 5  # metres a second, below which a vehicle joins the queue
 ACCELERATION = 2.6  # metres a second in a second, by which a vehicle speeds up: SUMO's own where a file says no other
 VEHICLE = 1000  # thousandths of a vehicle
+END, KEPT = 18_000, 10_800  # seconds: a state begins before; what is kept of the clock is what a queue may have stood for and counts
+HOUR = 3600  # seconds
+
+
+class Origin:
+    """The second that the states of a loop count from. It moves before a round that would begin too late for a state."""
+
+    def __init__(self, step):
+        self._step, self.second = step, 0
+
+    def move(self, now):
+        """Moves by whole rounds, so that what is left of the clock is at least what counts of how long a queue has stood."""
+        if now - self.second >= END:
+            self.second += (now - self.second - KEPT) // self._step * self._step
+
+    def green(self, row):
+        """A row of greens, as a state tells it."""
+        phase, begin, end = row
+        return phase, begin - self.second, end - self.second
+
+    def told(self, row):
+        """A row of a board, as a state tells it: a version counts rounds, a row of a forecast a second."""
+        kind, name, number, *cells = row
+        return kind, name, number - (self.second // self._step if kind == "version" else self.second), *cells
+
+    def said(self, row):
+        """A row of a board that a decision tells, as it would from second 0."""
+        kind, name, number, *cells = row
+        return kind, name, int(number) + (self.second // self._step if kind == "version" else self.second), *cells
 
 
 class Loop:
-    """The nodes' timelines and forecasts between the rounds, and the queues that have stood so far."""
+    """The nodes' timelines and forecasts between the rounds, counted from second 0, and the queues that have stood so far."""
 
     def __init__(self, signals, ask):
         self.ask, self._step = ask, signals.layout.network["run"]["step"]
+        self.origin = Origin(self._step)
         self.lines = {name: [(0, 0, node["phase"][0]["least"])] for name, node in signals.layout.nodes.items()}
         self.told, self.stood = [], Counter()
 
@@ -51,13 +84,17 @@ class Loop:
 
     def state(self, now, queues, coming):
         """The state of a round as a file of records."""
-        rows = [("now", "", now, "", "")]
+        self.origin.move(now)
+        clock = now - self.origin.second
+        rows = [("now", "", clock, "", "")]
         for node, line in self.lines.items():
-            standing = max(place for place, row in enumerate(line) if row[1] <= now)
-            rows += [("green", node, *row) for row in line[standing:]]
-        rows += [("queue", link, VEHICLE * queue, self.stood[link], "") for link, queue in queues.items()]
-        rows += [("coming", link, second, VEHICLE * count, "") for (link, second), count in sorted(coming.items())]
-        return csv_text([("kind", "name", "x", "y", "z"), *rows, *self.told])
+            standing = bisect_right(line, now, key=lambda row: row[1]) - 1
+            rows += [("green", node, *self.origin.green(row)) for row in line[standing:]]
+        rows += [("queue", link, VEHICLE * queue, min(self.stood[link], clock), "") for link, queue in queues.items()]
+        rows += [
+            ("coming", link, second - self.origin.second, VEHICLE * count, "") for (link, second), count in sorted(coming.items())
+        ]
+        return csv_text([("kind", "name", "x", "y", "z"), *rows, *map(self.origin.told, self.told)])
 
     def decide(self, now, queues, coming):
         """Asks the program for a round; its greens go on where the rows that began before them end."""
@@ -66,11 +103,13 @@ class Loop:
         self.told = []
         for row in csv.DictReader(io.StringIO(answer)):
             if row["kind"] == "green":
-                answered[row["name"]].append((int(row["x"]), int(row["y"]), int(row["z"])))
+                answered[row["name"]].append((int(row["x"]), *(int(row[end]) + self.origin.second for end in "yz")))
             elif row["kind"] in ("version", "row"):
-                self.told.append(tuple(row.values()))
+                self.told.append(self.origin.said(row.values()))
         for node, line in answered.items():
-            self.lines[node] = [row for row in self.lines[node] if row[1] < line[0][1]] + line
+            while self.lines[node] and self.lines[node][-1][1] >= line[0][1]:
+                self.lines[node].pop()
+            self.lines[node] += line
 
 
 def csv_text(rows):
@@ -132,6 +171,18 @@ class Sensors:
         return queues, coming
 
 
+def repeat_arrivals(path, period, seconds, to):
+    """Writes a file of arrivals again and again, so that those of a period come once in each, up to these seconds."""
+    arrivals = read_arrivals(path)
+    again = [
+        Arrival(begin + arrival.second, arrival.link, arrival.amount)
+        for begin in range(0, seconds, period)
+        for arrival in arrivals
+        if begin + arrival.second < seconds
+    ]
+    to.write_text(arrivals_text(again))
+
+
 def run_loop(signals, ask, words):
     """Runs SUMO by its words with the program in the loop, and answers the lines of greens of all nodes."""
     return run_control(signals, Loop(signals, ask), words)
@@ -165,11 +216,17 @@ def work() -> int:
     for name in ("network", "places", "arrivals", "folder"):
         parser.add_argument(name, type=Path)
     parser.add_argument("--seed", type=int, default=1)
+    parser.add_argument("--hours", type=float, help="how long it runs; as long as the network's rounds if left out")
     parser.add_argument("--program", type=shlex.split, help="its words before `decide`; the built program if left out")
     options = parser.parse_args()
     folder, seed = options.folder, options.seed
     signals = convert(read_tables(options.network), read_places(options.places), folder)
-    write_routes(signals.layout, options.arrivals, seed, folder / f"routes.{seed}.rou.xml")
+    arrivals = options.arrivals
+    if options.hours:
+        period, signals.layout.seconds = signals.layout.seconds, int(options.hours * HOUR)
+        arrivals = folder / "arrivals.csv"
+        repeat_arrivals(options.arrivals, period, signals.layout.seconds, arrivals)
+    write_routes(signals.layout, arrivals, seed, folder / f"routes.{seed}.rou.xml")
     ask = asker(options.program or built_program_words(), options.network, folder / "state.csv")
     lines = run_loop(signals, ask, run_words(folder, "loop", seed, signals))
     write_greens(folder / "greens.csv", lines)
