@@ -4,7 +4,7 @@ use Rattle.std.proofs.lemmas.Bool.{cases_lt}
 use Rattle.std.proofs.lemmas.Bool.Decides.{eqb_tells}
 use Rattle.std.proofs.lemmas.List.{get_or_past}
 use Rattle.std.proofs.lemmas.List.Elements.{All-get_or}
-use Rattle.phase_plan.specs.Phases.{phase_at, no_phase, IsPlan, IsPhase}
+use Rattle.phase_plan.specs.Phases.{phase_at, no_phase, IsRing, IsPhase}
 use Rattle.phase_plan.specs.declared.Phase.{Phase}
 use Rattle.net_parts.specs.declared.roads.Link.{Link}
 use Rattle.net_parts.specs.declared.roads.Turn.{Turn}
@@ -24,15 +24,15 @@ use Rattle.net_simulator.proofs.Keeping.{HasBounds}
 use Rattle.net_simulator.proofs.Conserving.{come, none-lost, grown, left-entered, reached-entered, on-link, waiting-on}
 
 -- no phase loses more; where there is none, nothing is lost
-loss-of-plan : (plan : List Phase) (k : ℕ) → IsPlan plan → (phase_at plan k).loss ≤ 10
+loss-of-plan : (plan : List Phase) (k : ℕ) → IsRing plan → (phase_at plan k).loss ≤ 10
 loss-of-plan plan k is = elim (cases_lt k (length plan)) [
   | inl inside ↦ (All-get_or IsPhase plan k no_phase inside is.phases).loss.0
   | inr past ↦ (let e = ap (λ (p : Phase). p.loss) (get_or_past plan k no_phase past) in omega (arith, e))
 ]
 
-loss-most : (plans : List (List Phase)) (n k : ℕ) → All IsPlan plans → (phase_at (get_or plans n []) k).loss ≤ 10
+loss-most : (plans : List (List Phase)) (n k : ℕ) → All IsRing plans → (phase_at (get_or plans n []) k).loss ≤ 10
 loss-most plans n k all = elim (cases_lt n (length plans)) [
-  | inl there ↦ loss-of-plan (get_or plans n []) k (All-get_or IsPlan plans n [] there all)
+  | inl there ↦ loss-of-plan (get_or plans n []) k (All-get_or IsRing plans n [] there all)
   | inr past ↦ (let e = ap (λ (plan : List Phase). (phase_at plan k).loss) (get_or_past plans n [] past) in omega (arith, e))
 ]
 
