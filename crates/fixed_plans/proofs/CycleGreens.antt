@@ -11,18 +11,18 @@ use Rattle.std.specs.Prelude.{Contains}
 use Rattle.net_parts.specs.Numbers.{Net}
 use Rattle.net_parts.specs.Outline.{plan_at}
 use Rattle.net_simulator.specs.Sums.{end_of_run}
-use Rattle.phase_plan.specs.Phases.{IsPlan, no_phase}
+use Rattle.phase_plan.specs.Phases.{IsRing}
 use Rattle.road_net.specs.Network.{IsNetwork}
 use Rattle.signal_safety.proofs.Lines.{plan-is}
 use Rattle.fixed_plans.specs.Rows.{IsFixedPlan}
-use Rattle.fixed_plans.proofs.LineLaws.{own-cycle}
+use Rattle.fixed_plans.proofs.LineLaws.{HasSpan, begin-here, green-some, long, own-cycle}
 use Rattle.phase_plan.specs.declared.Phase.{Phase}
 use Rattle.control_flow.specs.Greens.{covers, row_at}
 use Rattle.control_flow.specs.declared.greens.Green.{Green}
 use Rattle.fixed_plans.specs.Cycles.{IsCycle}
 use Rattle.fixed_plans.specs.Lines.{beginning, cycle_length, cycle_line, cycle_second, fixed_line, green_from, green_of, offset_of, rows_of, span}
 use Rattle.fixed_plans.specs.declared.rows.FixedRow.{FixedRow}
-use Rattle.fixed_plans.proofs.CycleLaws.{IsShown, cycle-shown, no_row, row_in}
+use Rattle.fixed_plans.proofs.CycleLaws.{no_row, row_in}
 use Rattle.waits.specs.Waits.{IsGreenBy}
 
 -- what a list by seconds has
@@ -40,27 +40,7 @@ module _ (f : ℕ → Option Green) (test : Green → Bool) where
         ap (λ (o : Option Green). list_any test (cons_option o (filter_map f (range_with_len (a + 1) n)))) (ap f e ∙ is) ∙ or_left (test g) (list_any test (filter_map f (range_with_len (a + 1) n))) passes
   ]
 
-module _ (plan : List Phase) (cycle : List FixedRow) (p : IsPlan plan) (is : IsCycle plan cycle) where
-  abbrev HasSpan : FixedRow → Type 0
-  HasSpan r = 0 < span plan r
-
-  begin-here : (at : ℕ) (rows : List FixedRow) (i s : ℕ) → All HasSpan rows → i < length rows → s ≡ at + sum_by (span plan) (take i rows) → beginning plan at rows s ≡ Some (row_in rows i)
-  begin-here at [] i s long below is = absurd (omega (arith, below))
-  begin-here at (r ∷ rows) zero s long below is = ap (λ b. cond b (Some r) (beginning plan (at + span plan r) rows s)) (eq-eqb s at (omega (arith, is)))
-  begin-here at (r ∷ rows) (suc i) s long below is =
-      let first = All-head HasSpan r rows long in
-      let sums = sum_by-cons (span plan) r (take i rows) in
-      ap (λ b. cond b (Some r) (beginning plan (at + span plan r) rows s)) (ne_eqb s at (λ e. omega (arith, is, e, first, sums)))
-      ∙ begin-here (at + span plan r) rows i s (All-tail HasSpan r rows long) (omega (arith, below)) (omega (arith, is, sums))
-
-  green-some : (i : ℕ) → i < length cycle → 0 < (row_in cycle i).green
-  green-some i below =
-      let row : IsShown plan (row_in cycle i) = All-get_or (IsShown plan) cycle i no_row below (cycle-shown plan 0 cycle is.from) in
-      omega (arith, row.green.least, (p.phases (row_in cycle i).phase no_phase row.exists).least.0)
-
-  long : All HasSpan cycle
-  long = All-from_get_or HasSpan cycle no_row (λ i below. omega (arith, green-some i below))
-
+module _ (plan : List Phase) (cycle : List FixedRow) (p : IsRing plan) (is : IsCycle plan cycle) where
   abbrev lasts : ℕ
   lasts = cycle_length plan cycle
 
@@ -78,7 +58,7 @@ module _ (plan : List Phase) (cycle : List FixedRow) (p : IsPlan plan) (is : IsC
     after = low;
     before = high;
     inside = inside;
-    begins = ap (λ (n : ℕ). option_map (green_of y) (beginning plan 0 cycle n)) at ∙ ap (option_map (green_of y)) (begin-here 0 cycle i (sum_by (span plan) (take i cycle)) long below (omega arith));
+    begins = ap (λ (n : ℕ). option_map (green_of y) (beginning plan 0 cycle n)) at ∙ ap (option_map (green_of y)) (begin-here plan 0 cycle i (sum_by (span plan) (take i cycle)) (long plan cycle p is) below (omega arith));
   }
 
   -- some whole lengths and a place in the cycle
@@ -88,7 +68,7 @@ module _ (plan : List Phase) (cycle : List FixedRow) (p : IsPlan plan) (is : IsC
   pub comes : (i end second : ℕ) → i < length cycle → second ≤ end → BeginsBy end i second
   comes i end second below early =
       let s = sum_by (span plan) (take i cycle) in
-      let within : s < lasts = omega (arith, sum_by_more_le (span plan) cycle i no_row below, All-get_or HasSpan cycle i no_row below long) in
+      let within : s < lasts = omega (arith, sum_by_more_le (span plan) cycle i no_row below, All-get_or (HasSpan plan) cycle i no_row below (long plan cycle p is)) in
       let whole : 0 < lasts = omega (arith, within) in
       let at = second + (lasts - offset_of cycle % lasts) in
       let c = at % lasts in
@@ -110,7 +90,7 @@ module _ (plan : List Phase) (cycle : List FixedRow) (p : IsPlan plan) (is : IsC
       let row = row_in cycle i in
       let k = row.phase in
       let by = comes i end second below early in
-      let covered : ((eqb k k) && covers (green_of by.at row) by.at) ≡ true = and_from (eqb k k) (covers (green_of by.at row) by.at) (eq-eqb k k refl) (and_from (leb by.at by.at) (ltb by.at (by.at + row.green)) (le-leb by.at by.at (omega arith)) (lt-ltb by.at (by.at + row.green) (omega (arith, green-some i below)))) in
+      let covered : ((eqb k k) && covers (green_of by.at row) by.at) ≡ true = and_from (eqb k k) (covers (green_of by.at row) by.at) (eq-eqb k k refl) (and_from (leb by.at by.at) (ltb by.at (by.at + row.green)) (le-leb by.at by.at (omega arith)) (lt-ltb by.at (by.at + row.green) (omega (arith, green-some plan cycle p is i below)))) in
       record { second = by.at; after = by.after; before = by.before; green = any-of (green_from plan cycle) (λ (g : Green). (g.phase == k) && covers g by.at) (end + lasts) 0 by.at (green_of by.at row) (omega arith) (omega (arith, by.inside)) by.begins covered }
 
 -- for the rows of a node

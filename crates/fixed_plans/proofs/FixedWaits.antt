@@ -24,7 +24,7 @@ use Rattle.net_simulator.specs.Shown.{cumulative_of_lines}
 use Rattle.net_simulator.specs.Sums.{end_of_run}
 use Rattle.net_simulator.specs.Worlds.{line_in, signs_by}
 use Rattle.net_simulator.proofs.AtNodes.{past-at-nodes}
-use Rattle.phase_plan.specs.Phases.{IsPlan, phase_at}
+use Rattle.phase_plan.specs.Phases.{IsRing, phase_at}
 use Rattle.phase_plan.specs.declared.Phase.{Phase}
 use Rattle.road_net.specs.Network.{IsNetwork}
 use Rattle.fixed_plans.specs.FixedBounds.{cycle_bound, fixed_bounds, row_bound}
@@ -83,7 +83,7 @@ gives-bound plan cycle k wait e = by (find (λ (row : FixedRow). eqb row.phase k
         }
 
 -- what a line shows in the seconds of a green that it has
-shows-green : (plan : List Phase) (p : IsPlan plan) (rows : List Green) → IsLawful plan rows → (g : Green) → IsPlaced rows g → (x : ℕ) → g.from ≤ x → x < g.to → sign_at rows x ≡ On g.phase g.from
+shows-green : (plan : List Phase) (p : IsRing plan) (rows : List Green) → IsLawful plan rows → (g : Green) → IsPlaced rows g → (x : ℕ) → g.from ≤ x → x < g.to → sign_at rows x ≡ On g.phase g.from
 shows-green plan p rows lawful g placed x begun still =
     let order : IsInOrder rows = order-lawful plan rows p lawful in
     let from = ap (λ (r : Green). r.from) placed.at in

@@ -7,7 +7,7 @@ use Rattle.std.proofs.lemmas.List.{take_all}
 use Rattle.std.proofs.lemmas.List.Elements.{All-from_get_or, All-get_or, All-head, All-tail, filter_map-append}
 use Rattle.std.proofs.lemmas.List.Sums.{sum_by-cons, sum_by_more, sum_by_more_le, get_or-le-sum_by}
 use Rattle.std.proofs.lemmas.Nat.{mod-mul-add, mod_below}
-use Rattle.phase_plan.specs.Phases.{IsMarkedAt, IsPlan, between, no_phase, phase_at}
+use Rattle.phase_plan.specs.Phases.{IsRing, no_phase, phase_at}
 use Rattle.phase_plan.specs.declared.Phase.{Phase}
 use Rattle.control_flow.specs.Greens.{Follows, IsGreen, IsLawful, end_of}
 use Rattle.control_flow.specs.declared.greens.Green.{Green}
@@ -22,7 +22,7 @@ use Rattle.fixed_plans.specs.Cycles.{IsCycle}
 use Rattle.fixed_plans.specs.Lines.{beginning, cycle_length, cycle_line, cycle_second, green_from, green_of, offset_of, rows_of, span}
 use Rattle.fixed_plans.specs.Rows.{IsFixedPlan}
 use Rattle.road_net.specs.Network.{IsNetwork}
-use Rattle.fixed_plans.proofs.CycleLaws.{IsShown, cycle-of, cycle-shown, cycle-some, next-marked, no_row, round-marked, row_in}
+use Rattle.fixed_plans.proofs.CycleLaws.{ComesAfter, IsShown, cycle-of, cycle-shown, next-after, no_row, round-after, row_in}
 
 -- one second more
 range-more : (a n : ℕ) → range_with_len a (n + 1) ≡ range_with_len a n ++ (a + n) ∷ []
@@ -56,7 +56,7 @@ module _ (begins : ℕ → Option Green) where
       ap begun e ∙ begun-none (n + m) (none (n + m) (omega arith) (omega arith)) ∙ begun-quiet n m (λ x from to. none x from (omega (arith, to)))
 
 module _ (plan : List Phase) where
-  abbrev HasSpan : FixedRow → Type 0
+  abbrev pub HasSpan : FixedRow → Type 0
   HasSpan r = 0 < span plan r
 
   -- which row begins at a second of the cycle
@@ -66,7 +66,7 @@ module _ (plan : List Phase) where
       ap (λ b. cond b (Some r) (beginning plan (at + span plan r) rows s)) (ne_eqb s at (λ e. omega (arith, early, e)))
       ∙ early-none (at + span plan r) rows s (omega (arith, early))
 
-  begin-here : (at : ℕ) (rows : List FixedRow) (i s : ℕ) → All HasSpan rows → i < length rows → s ≡ at + sum_by (span plan) (take i rows) → beginning plan at rows s ≡ Some (row_in rows i)
+  pub begin-here : (at : ℕ) (rows : List FixedRow) (i s : ℕ) → All HasSpan rows → i < length rows → s ≡ at + sum_by (span plan) (take i rows) → beginning plan at rows s ≡ Some (row_in rows i)
   begin-here at [] i s long below is = absurd (omega (arith, below))
   begin-here at (r ∷ rows) zero s long below is = ap (λ b. cond b (Some r) (beginning plan (at + span plan r) rows s)) (eq-eqb s at (omega (arith, is)))
   begin-here at (r ∷ rows) (suc i) s long below is =
@@ -143,7 +143,7 @@ pub record IsEnded (plan : List Phase) (cycle : List FixedRow) (lead : ℕ) (row
   pub clear : last.to + (phase_at plan last.phase).yellow + (phase_at plan last.phase).clear + lead ≡ at
   pub order : last.from < last.to
   pub recent : at ≤ lead + last.from + cycle_length plan cycle
-  pub marked : All (IsMarkedAt plan) (between plan last.phase (row_in cycle i).phase)
+  pub next : ComesAfter plan last.phase (row_in cycle i).phase
 
 -- how far a line is made
 pub record IsUnderway (plan : List Phase) (cycle : List FixedRow) (lead until : ℕ) (rows : List Green) (at i : ℕ) : Type 0 where
@@ -154,35 +154,35 @@ pub record IsUnderway (plan : List Phase) (cycle : List FixedRow) (lead until : 
   pub lawful : IsLawful plan rows
   pub ended : ((rows ≡ []) × (at < lead + cycle_length plan cycle)) ⊎ IsEnded plan cycle lead rows at i
 
-module _ (plan : List Phase) (cycle : List FixedRow) (p : IsPlan plan) (is : IsCycle plan cycle) where
+module _ (plan : List Phase) (cycle : List FixedRow) (p : IsRing plan) (is : IsCycle plan cycle) where
   shown : All (IsShown plan) cycle
   shown = cycle-shown plan 0 cycle is.from
 
   -- a row is shown for at least a second, and at most for the cycle
-  green-some : (i : ℕ) → i < length cycle → 0 < (row_in cycle i).green
+  pub green-some : (i : ℕ) → i < length cycle → 0 < (row_in cycle i).green
   green-some i below =
       let row : IsShown plan (row_in cycle i) = All-get_or (IsShown plan) cycle i no_row below shown in
       omega (arith, row.green.least, (p.phases (row_in cycle i).phase no_phase row.exists).least.0)
 
-  long : All (HasSpan plan) cycle
+  pub long : All (HasSpan plan) cycle
   long = All-from_get_or (HasSpan plan) cycle no_row (λ i below. omega (arith, green-some i below))
 
-  span-most : (i : ℕ) → i < length cycle → span plan (row_in cycle i) ≤ cycle_length plan cycle
+  pub span-most : (i : ℕ) → i < length cycle → span plan (row_in cycle i) ≤ cycle_length plan cycle
   span-most i below = get_or-le-sum_by (span plan) cycle i no_row below
 
   -- the place of the next row
   place-next : (at i next : ℕ) → next ≡ cond (ltb (i + 1) (length cycle)) (i + 1) 0 → IsPlace plan cycle at i
-      → IsPlace plan cycle (at + span plan (row_in cycle i)) next × All (IsMarkedAt plan) (between plan (row_in cycle i).phase (row_in cycle next).phase)
+      → IsPlace plan cycle (at + span plan (row_in cycle i)) next × ComesAfter plan (row_in cycle i).phase (row_in cycle next).phase
   place-next at i next is_next place =
-      let Moves : ℕ → Type 0 = λ k. IsPlace plan cycle (at + span plan (row_in cycle i)) k × All (IsMarkedAt plan) (between plan (row_in cycle i).phase (row_in cycle k).phase) in
+      let Moves : ℕ → Type 0 = λ k. IsPlace plan cycle (at + span plan (row_in cycle i)) k × ComesAfter plan (row_in cycle i).phase (row_in cycle k).phase in
       let more = sum_by_more (span plan) cycle i no_row place.below in
       elim (cases_lt (i + 1) (length cycle)) [
-        | inl h ↦ subst Moves (cond_below (i + 1) (length cycle) (i + 1) 0 h ∙ sym is_next) (record { below = h; turns = place.turns; base = place.base; whole = place.whole; is_at = omega (arith, place.is_at, more) }, next-marked plan cycle i h is)
+        | inl h ↦ subst Moves (cond_below (i + 1) (length cycle) (i + 1) 0 h ∙ sym is_next) (record { below = h; turns = place.turns; base = place.base; whole = place.whole; is_at = omega (arith, place.is_at, more) }, next-after plan cycle i h is)
         | inr h ↦
             let last : i + 1 ≡ length cycle = omega (arith, h, place.below) in
             let all = ap (sum_by (span plan)) (take_all (i + 1) cycle h) in
             subst Moves (cond_above (i + 1) (length cycle) (i + 1) 0 0 h refl ∙ sym is_next)
-            (record { below = is.some; turns = suc place.turns; base = place.base + cycle_length plan cycle; whole = ap (λ b. b + cycle_length plan cycle) place.whole ∙ suc-length place.turns; is_at = omega (arith, place.is_at, more, all) }, round-marked plan cycle i last is)
+            (record { below = omega (arith, is.some); turns = suc place.turns; base = place.base + cycle_length plan cycle; whole = ap (λ b. b + cycle_length plan cycle) place.whole ∙ suc-length place.turns; is_at = omega (arith, place.is_at, more, all) }, round-after plan cycle i last is)
       ]
     where
       suc-length : (n : ℕ) → n * cycle_length plan cycle + cycle_length plan cycle ≡ suc n * cycle_length plan cycle
@@ -243,8 +243,8 @@ module _ (plan : List Phase) (cycle : List FixedRow) (p : IsPlan plan) (is : IsC
           record { phase = is_row.exists; least = omega (arith, is_row.green.least); greatest = omega (arith, is_row.green.greatest) }
 
       module _ (next : ℕ) (is_next : next ≡ cond (ltb (i + 1) (length cycle)) (i + 1) 0) where
-        marks : All (IsMarkedAt plan) (between plan row.phase (row_in cycle next).phase)
-        marks = (place-next at i next is_next place).1
+        after : ComesAfter plan row.phase (row_in cycle next).phase
+        after = (place-next at i next is_next place).1
 
         -- a green is added, or it is too early for that
         ended-late : (rows : List Green) → lead ≤ at → IsEnded plan cycle lead (rows ++ green_of (at - lead) row ∷ []) (at + span plan row) next
@@ -255,7 +255,7 @@ module _ (plan : List Phase) (cycle : List FixedRow) (p : IsPlan plan) (is : IsC
           clear = omega (arith, late);
           order = omega (arith, green-some i place.below);
           recent = omega (arith, late, span-most i place.below);
-          marked = marks;
+          next = after;
         }
 
         lawful-late : (rows : List Green) → lead ≤ at → IsLawful plan rows → ((rows ≡ []) × (at < lead + cycle_length plan cycle)) ⊎ IsEnded plan cycle lead rows at i → IsLawful plan (rows ++ green_of (at - lead) row ∷ [])
@@ -264,7 +264,7 @@ module _ (plan : List Phase) (cycle : List FixedRow) (p : IsPlan plan) (is : IsC
         lawful-late rows late lawful (inr ended) =
             subst (λ l. IsLawful plan (l ++ green_of (at - lead) row ∷ [])) (sym ended.are)
             (lawful-push plan ended.front ended.last (green_of (at - lead) row) (subst (IsLawful plan) ended.are lawful) (green-is (at - lead))
-            (record { passed = ended.marked; begins = omega (arith, ended.clear, late) }))
+            (record { passed = ended.next.marked; other = ended.next.other; begins = omega (arith, ended.clear, late) }))
 
         ended-early : (rows : List Green) → at < lead → ((rows ≡ []) × (at < lead + cycle_length plan cycle)) ⊎ IsEnded plan cycle lead rows at i
             → (rows ++ [] ≡ []) × (at + span plan row < lead + cycle_length plan cycle)
@@ -307,7 +307,7 @@ module _ (plan : List Phase) (cycle : List FixedRow) (p : IsPlan plan) (is : IsC
   -- the begin of the line
   pub line-none : (lead until : ℕ) → 0 < lead → lead < until → IsUnderway plan cycle lead until [] 0 0
   line-none lead until first some = record {
-    place = record { below = is.some; turns = 0; base = 0; whole = omega arith; is_at = refl };
+    place = record { below = omega (arith, is.some); turns = 0; base = 0; whole = omega arith; is_at = refl };
     reach = 0;
     reaches = record { within = λ b l. absurd (omega (arith, l, first)); early = λ e. refl; after = λ a. absurd (omega (arith, a, some)) };
     value = refl;
@@ -338,6 +338,10 @@ offset-first : (rows : List FixedRow) → (row_in rows 0).offset ≡ offset_of r
 offset-first [] = refl
 offset-first (r ∷ rows) = refl
 
+-- a cycle has a row
+some-row : (plan : List Phase) (cycle : List FixedRow) → IsCycle plan cycle → 0 < length cycle
+some-row plan cycle is = omega (arith, is.some)
+
 -- how long before second 0 a cycle begins
 pub record IsLead (plan : List Phase) (cycle : List FixedRow) (lead : ℕ) : Type 0 where
   pub is : lead ≡ cycle_length plan cycle - offset_of cycle % cycle_length plan cycle
@@ -345,9 +349,9 @@ pub record IsLead (plan : List Phase) (cycle : List FixedRow) (lead : ℕ) : Typ
   pub most : lead ≤ cycle_length plan cycle
   pub whole : 0 < cycle_length plan cycle
 
-pub lead-of : (plan : List Phase) (cycle : List FixedRow) → IsPlan plan → IsCycle plan cycle → (length : ℕ) → length ≡ cycle_length plan cycle → IsLead plan cycle (length - (row_in cycle 0).offset % length)
+pub lead-of : (plan : List Phase) (cycle : List FixedRow) → IsRing plan → IsCycle plan cycle → (length : ℕ) → length ≡ cycle_length plan cycle → IsLead plan cycle (length - (row_in cycle 0).offset % length)
 lead-of plan cycle p is length same =
-    let whole : 0 < cycle_length plan cycle = omega (arith, get_or-le-sum_by (span plan) cycle 0 no_row is.some, green-some plan cycle p is 0 is.some) in
+    let whole : 0 < cycle_length plan cycle = omega (arith, get_or-le-sum_by (span plan) cycle 0 no_row (some-row plan cycle is), green-some plan cycle p is 0 (some-row plan cycle is)) in
     let equal : length - (row_in cycle 0).offset % length ≡ cycle_length plan cycle - offset_of cycle % cycle_length plan cycle =
     ap (λ n. n - (row_in cycle 0).offset % n) same ∙ ap (λ o. cycle_length plan cycle - o % cycle_length plan cycle) (offset-first cycle) in
     let below = mod_below (offset_of cycle) (cycle_length plan cycle) whole in
@@ -355,8 +359,7 @@ lead-of plan cycle p is length same =
 
 -- the rows of a node of a fixed plan are a cycle
 pub own-cycle : (net : Net) → IsNetwork net → (rows : List FixedRow) (node : ℕ) → node < length net.node_names → IsFixedPlan net rows → IsCycle (plan_at net node) (rows_of rows node)
-own-cycle net network rows node below is =
-    cycle-some (plan_at net node) (rows_of rows node) (network.outline.plans node [] (omega (arith, below, network.outline.plan_count))) (cycle-of net node rows below is)
+own-cycle net network rows node below is = cycle-of net node rows below is
 
 -- the timeline of a node
 pub record IsLineOf (net : Net) (node : ℕ) (line : List Green) : Type 0 where

@@ -15,10 +15,11 @@ use Rattle.record_text.proofs.FormLaws.{IsHere, Refutes, first-cause, refuted}
 use Rattle.fixed_plans.specs.declared.reader.PlanReader.{PlanReader}
 use Rattle.fixed_plans.specs.declared.faults.FixedFault.{FixedFault}
 use Rattle.fixed_plans.specs.declared.faults.FixedFault.TheVariants.{NoMemory, Header, Row, Node, Phase, Green, Offset, Short}
+use Rattle.fixed_plans.specs.declared.rows.Before.{Before}
 use Rattle.fixed_plans.specs.declared.rows.FixedRow.{FixedRow}
 use Rattle.fixed_plans.specs.Faults.{IsAtGreen, IsAtOffset, IsAtPhase, cause_of, form}
 use Rattle.fixed_plans.specs.Records.{FixedRecord, header, parse_in, parse}
-use Rattle.fixed_plans.specs.Rows.{AreRowsAfter, ComesNext, HasOffset, IsEnd, IsRow, last_of}
+use Rattle.fixed_plans.specs.Rows.{AreRowsAfter, ComesNext, HasOffset, IsEnd, IsRow, as_before, last_of}
 use Rattle.fixed_plans.specs.Readers.{Adds, HasRead, IsPlaced, IsFaultAt}
 use Rattle.fixed_plans.proofs.RowLaws.{last-more, last-placed, row-amid, rows-few, rows-more}
 
@@ -55,18 +56,18 @@ taken-few net network all =
 
 -- the last row that was taken is one of the network
 pub taken-placed : (net : Net) (records : List (List (List ℕ))) (reader : PlanReader) → HasRead net records reader → IfSome reader.last (IsPlaced net)
-taken-placed net records reader taken = subst (λ (o : Option FixedRow). IfSome o (IsPlaced net)) (sym taken.last) (last-placed net None reader.rows.items tt taken.lawful)
+taken-placed net records reader taken = subst (λ (o : Option Before). IfSome o (IsPlaced net)) (sym taken.last) (last-placed net None reader.rows.items tt taken.lawful)
 
 -- a row was added, or not
 module _ (net : Net) (fields : List (List ℕ)) (number : ℕ) (old new : PlanReader) (r : FixedRow) (is : parse_in net fields ≡ Some r) where
   pub taken-more : (result : Result (Unit {0}) FixedFault) → Adds net r number old new result → OnOk result ((records : List (List (List ℕ))) → HasRead net records old → HasRead net (records ++ fields ∷ []) new)
   taken-more (Ok done) (next, green, offset, rows, last) = λ records taken.
       let lawful : IsRow net old.last r = record { node = node-within net fields r is; next = next; green = green; offset = offset } in
-      let all = rows-more net None old.rows.items r taken.lawful (subst (λ (o : Option FixedRow). IsRow net o r) taken.last lawful) in
+      let all = rows-more net None old.rows.items r taken.lawful (subst (λ (o : Option Before). IsRow net o r) taken.last lawful) in
       record {
         reads = each-push (parse_in net) records fields old.rows.items r taken.reads is ∙ ap Some (sym rows);
         lawful = subst (AreRowsAfter net None) (sym rows) all;
-        last = last ∙ sym (last-more None old.rows.items r) ∙ ap (last_of None) (sym rows);
+        last = last ∙ ap (λ (o : Option Before). Some (as_before o r)) taken.last ∙ sym (last-more None old.rows.items r) ∙ ap (last_of None) (sym rows);
       }
   taken-more (Err fault) adds = tt
 
@@ -80,7 +81,7 @@ module _ (net : Net) (before : List (List (List ℕ))) (reader : PlanReader) (he
   so-far = record { reads = taken.reads; lawful = taken.lawful }
 
   -- what was known of the last row is known of the rows
-  of-rows : (P : Option FixedRow → Type 0) → P reader.last → P (last_of None reader.rows.items)
+  of-rows : (P : Option Before → Type 0) → P reader.last → P (last_of None reader.rows.items)
   of-rows P h = subst P taken.last h
 
   refused-here : (fault : FixedFault) → IsFaultAt net reader here number fault → IsHere (form net) before here number (cause_of net fault)
@@ -118,7 +119,7 @@ module _ (net : Net) (all : List (List (List ℕ))) (reader : PlanReader) (taken
   taken-short early = record {
     records = taken.records;
     are = taken.are;
-    after = (reader.rows.items, so-far net taken.records reader [] 0 taken.after, subst (λ (o : Option FixedRow). IsEnd net o → ⊥) taken.after.last early);
+    after = (reader.rows.items, so-far net taken.records reader [] 0 taken.after, subst (λ (o : Option Before). IsEnd net o → ⊥) taken.after.last early);
   }
 
 -- what is at fault is told by no records of a fixed plan

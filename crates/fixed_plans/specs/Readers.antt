@@ -6,14 +6,15 @@ use Rattle.net_parts.specs.Outline.{plan_at}
 use Rattle.fixed_plans.specs.declared.reader.PlanReader.{PlanReader}
 use Rattle.fixed_plans.specs.declared.faults.FixedFault.{FixedFault}
 use Rattle.fixed_plans.specs.declared.faults.FixedFault.TheVariants.{NoMemory, Row, Node, Phase, Green, Offset}
+use Rattle.fixed_plans.specs.declared.rows.Before.{Before}
 use Rattle.fixed_plans.specs.declared.rows.FixedRow.{FixedRow}
 use Rattle.fixed_plans.specs.Records.{parse, parse_in}
-use Rattle.fixed_plans.specs.Rows.{AreRowsAfter, ComesNext, HasGreen, HasOffset, last_of}
+use Rattle.fixed_plans.specs.Rows.{AreRowsAfter, ComesNext, HasGreen, HasOffset, as_before, last_of}
 
--- a row is one of a node and a phase of it
-pub record IsPlaced (net : Net) (r : FixedRow) : Type 0 where
-  pub node : r.node < length net.node_names
-  pub phase : r.phase < length (plan_at net r.node)
+-- the row before is one of a node and a phase of it
+pub record IsPlaced (net : Net) (b : Before) : Type 0 where
+  pub node : b.row.node < length net.node_names
+  pub phase : b.row.phase < length (plan_at net b.row.node)
 
 -- the row of a record; else the record tells none, or its name is no node's
 abbrev pub Reads : Net → List (List ℕ) → ℕ → Result FixedRow FixedFault → Type 0
@@ -26,7 +27,7 @@ Reads net fields number (Err _) = ⊥
 abbrev pub Adds : Net → FixedRow → ℕ → PlanReader → PlanReader → Result (Unit {0}) FixedFault → Type 0
 Adds net r number old new (Ok _) =
     ComesNext net old.last r × HasGreen (plan_at net r.node) r × HasOffset old.last r
-    × (new.rows.items ≡ old.rows.items ++ r ∷ []) × (new.last ≡ Some r)
+    × (new.rows.items ≡ old.rows.items ++ r ∷ []) × (new.last ≡ Some (as_before old.last r))
 Adds net r number old new (Err (Phase n)) = (n ≡ number) × ¬ ComesNext net old.last r
 Adds net r number old new (Err (Green n)) = (n ≡ number) × ComesNext net old.last r × ¬ HasGreen (plan_at net r.node) r
 Adds net r number old new (Err (Offset n)) =

@@ -1,10 +1,11 @@
 -- The rows of a fixed plan: which may follow one another, and when they are all.
-use Rattle.std.specs.Prelude.{◌≡◌, ℕ, ◌+◌, ◌-◌, ◌<◌, ◌≤◌, ◌⊎◌, List, [], ◌∷◌, Option, None, Some, length, All}
+use Rattle.std.specs.Prelude.{◌≡◌, ℕ, ◌+◌, ◌-◌, ◌<◌, ◌≤◌, ◌⊎◌, ◌==◌, Bool, true, false, not, List, [], ◌∷◌, Option, None, Some, length, All}
 use Rattle.std.specs.List.{range_with_len}
 use Rattle.phase_plan.specs.Phases.{IsMarkedAt, phase_at}
 use Rattle.phase_plan.specs.declared.Phase.{Phase}
 use Rattle.net_parts.specs.Numbers.{Net}
 use Rattle.net_parts.specs.Outline.{plan_at}
+use Rattle.fixed_plans.specs.declared.rows.Before.{Before}
 use Rattle.fixed_plans.specs.declared.rows.FixedRow.{FixedRow}
 
 -- the greatest offset
@@ -21,17 +22,27 @@ pub record IsFirstFrom (plan : List Phase) (low k : ℕ) : Type 0 where
   pub exists : k < length plan
   pub passed : AreMarked plan low k
 
--- all phases of the node after that of a row are marked
-abbrev pub IsLastRow : Net → FixedRow → Type 0
-IsLastRow net b = AreMarked (plan_at net b.node) (b.phase + 1) (length (plan_at net b.node))
+-- A row may be the last of its node: all phases after its own are marked, and it is not the only row. A ring with unmarked phases has two
+-- rows or more for them; in a free ring any two phases or more have one.
+abbrev pub IsLastRow : Net → Before → Type 0
+IsLastRow net b = (b.first ≡ false) × AreMarked (plan_at net b.row.node) (b.row.phase + 1) (length (plan_at net b.row.node))
+
+-- whether a row is the first of its node, after the row before it
+abbrev pub is_first : Option Before → FixedRow → Bool
+is_first None r = true
+is_first (Some b) r = not (r.node == b.row.node)
+
+-- a row as the one before the next
+abbrev pub as_before : Option Before → FixedRow → Before
+as_before before r = record { row = r; first = is_first before r }
 
 -- Which row may come next after the row before it: one of the same node, of the next phase up its ring; or, after the last row
 -- of that node, the first of the next node. Without a row before it, the first of node 0.
-abbrev pub ComesNext : Net → Option FixedRow → FixedRow → Type 0
+abbrev pub ComesNext : Net → Option Before → FixedRow → Type 0
 ComesNext net None r = (r.node ≡ 0) × IsFirstFrom (plan_at net r.node) 0 r.phase
 ComesNext net (Some b) r =
-    ((r.node ≡ b.node) × IsFirstFrom (plan_at net r.node) (b.phase + 1) r.phase)
-    ⊎ ((r.node ≡ b.node + 1) × IsLastRow net b × IsFirstFrom (plan_at net r.node) 0 r.phase)
+    ((r.node ≡ b.row.node) × IsFirstFrom (plan_at net r.node) (b.row.phase + 1) r.phase)
+    ⊎ ((r.node ≡ b.row.node + 1) × IsLastRow net b × IsFirstFrom (plan_at net r.node) 0 r.phase)
 
 -- the green of a row is within the bounds of its phase
 pub record HasGreen (plan : List Phase) (r : FixedRow) : Type 0 where
@@ -39,31 +50,31 @@ pub record HasGreen (plan : List Phase) (r : FixedRow) : Type 0 where
   pub greatest : r.green ≤ (phase_at plan r.phase).greatest
 
 -- the offset of a row is that of the row before it of the same node
-abbrev pub HasOffset : Option FixedRow → FixedRow → Type 0
+abbrev pub HasOffset : Option Before → FixedRow → Type 0
 HasOffset None r = r.offset ≤ greatest_offset
-HasOffset (Some b) r = (r.offset ≤ greatest_offset) × (r.node ≡ b.node → r.offset ≡ b.offset)
+HasOffset (Some b) r = (r.offset ≤ greatest_offset) × (r.node ≡ b.row.node → r.offset ≡ b.row.offset)
 
 -- a lawful row after the row before it
-pub record IsRow (net : Net) (before : Option FixedRow) (r : FixedRow) : Type 0 where
+pub record IsRow (net : Net) (before : Option Before) (r : FixedRow) : Type 0 where
   pub node : r.node < length net.node_names
   pub next : ComesNext net before r
   pub green : HasGreen (plan_at net r.node) r
   pub offset : HasOffset before r
 
 -- each of these rows is lawful after the one before it, the first after this one
-abbrev pub AreRowsAfter : Net → Option FixedRow → List FixedRow → Type 0
+abbrev pub AreRowsAfter : Net → Option Before → List FixedRow → Type 0
 AreRowsAfter net before [] = Unit {0}
-AreRowsAfter net before (r ∷ rs) = IsRow net before r × AreRowsAfter net (Some r) rs
+AreRowsAfter net before (r ∷ rs) = IsRow net before r × AreRowsAfter net (Some (as_before before r)) rs
 
 -- the last of these rows, or this one where there are none
-abbrev pub last_of : Option FixedRow → List FixedRow → Option FixedRow
+abbrev pub last_of : Option Before → List FixedRow → Option Before
 last_of before [] = before
-last_of before (r ∷ rs) = last_of (Some r) rs
+last_of before (r ∷ rs) = last_of (Some (as_before before r)) rs
 
 -- this is the last row of the last node
-abbrev pub IsEnd : Net → Option FixedRow → Type 0
+abbrev pub IsEnd : Net → Option Before → Type 0
 IsEnd net None = ⊥
-IsEnd net (Some b) = (b.node + 1 ≡ length net.node_names) × IsLastRow net b
+IsEnd net (Some b) = (b.row.node + 1 ≡ length net.node_names) × IsLastRow net b
 
 -- the rows of a fixed plan of a network: each is lawful after the one before it, and the last is the last of the last node
 pub record IsFixedPlan (net : Net) (rows : List FixedRow) : Type 0 where

@@ -1,8 +1,9 @@
 //! Within how many seconds queues lose something under a fixed plan.
-ghost use Rattle.std.specs.Prelude.{◌≡◌, ℕ, ◌+◌, ◌<◌, ◌≤◌, ◌==◌, nat_lt, if◌then◌else◌, find, option_copied, IfOk, Ok, Err, length, map};
+ghost use Rattle.std.specs.Prelude.{◌≡◌, ◌<◌, ◌≤◌, ◌==◌, find, option_copied, IfOk, length, map};
 ghost use Rattle.std.specs.List.{range_with_len};
 ghost use Rattle.fixed_plans.specs.Cycles.{IsCycle};
 ghost use Rattle.fixed_plans.specs.FixedBounds as spec;
+ghost use Rattle.fixed_plans.specs.FixedBounds.{green_bound};
 ghost use Rattle.fixed_plans.specs.Rows.{IsFixedPlan};
 ghost use Rattle.net_parts.specs.Outline.{plan_at};
 ghost use Rattle.phase_plan.specs.Phases.{IsPhase};
@@ -52,7 +53,7 @@ fn cycle_bound(plan: &PhasePlan, cycle: &[FixedRow], phase: u8) -> Result<u32, N
 }
 
 /// The row of a phase, if it has one.
-fn row_of(cycle: &[FixedRow], phase: u32) -> Option<&FixedRow>
+pub(crate) fn row_of(cycle: &[FixedRow], phase: u32) -> Option<&FixedRow>
     ensures { option_copied result ≡ find (λ row. row.phase == phase) cycle.now }
 {
     cycle.iter().find(|row| row.phase == phase)
@@ -62,7 +63,7 @@ fn row_of(cycle: &[FixedRow], phase: u32) -> Option<&FixedRow>
 fn row_bound(times: &Phase, length: u32, green: u32) -> Result<u32, NoBound>
     requires times { IsPhase times.now }
     requires length { length ≤ 1040 }
-    ensures { result ≡ if nat_lt times.now.loss green then Ok (length + times.now.loss + 1) else Err NoBound.ShortGreen }
+    ensures { result ≡ green_bound times.now.loss length green }
 {
     if times.loss < green {
         Ok(length + times.loss + 1)

@@ -8,7 +8,7 @@ ghost use Rattle.net_parts.specs.Outline.{plan_at};
 ghost use Rattle.net_simulator.specs.Shown.{cumulative_of_lines};
 ghost use Rattle.net_simulator.specs.Sums as sums;
 ghost use Rattle.net_simulator.specs.Worlds.{line_in};
-ghost use Rattle.phase_plan.specs.Phases.{IsPlan};
+ghost use Rattle.phase_plan.specs.Phases.{IsRing};
 ghost use Rattle.fixed_plans.specs.Lines as spec;
 ghost use Rattle.fixed_plans.specs.Lines.{cycle_length, cycle_line, fixed_line, green_of, offset_of};
 ghost use Rattle.fixed_plans.specs.Rows.{IsFixedPlan};
@@ -26,7 +26,7 @@ use std::alloc::{AllocError, Global};
 /// The timeline of each node under a fixed plan, by node. Every green is followed by its yellow and its clear time,
 /// and then by the next green of the node's cycle. A cycle begins at the offset, and whole cycles before and after it;
 /// of the cycles before, the greens count that begin at second 0 or later. Each timeline ends after the run. Where they
-/// are shown, each queue of a phase that has a bound under the plan loses something within it.
+/// are shown, each queue of a link without a walk loses something within the bound of its phase under the plan, where it has one.
 ///
 /// The plan is one of the network. `Err`: out of memory.
 ///
@@ -43,7 +43,8 @@ pub fn fixed_lines(
         → IsLawful (plan_at net.now node) (line_in lines.items node)) }
     ensures end { IfOk result (λ lines. (node : ℕ) → node < length net.now.node_names
         → sums.end_of_run net.now < end_of (line_in lines.items node)) }
-    ensures waits { IfOk result (λ lines. (arriving : ℕ → ℕ → ℕ) → AreWaitsWithin net.now (fixed_bounds net.now plan.now)
+    ensures waits { IfOk result (λ lines. (arriving : ℕ → ℕ → ℕ)
+        → AreWaitsWithin net.now (fixed_bounds net.now plan.now)
         (cumulative_of_lines net.now arriving lines.items) (sums.end_of_run net.now)) }
 {
     law_of_network(net);
@@ -101,7 +102,7 @@ fn cycle_line(
     ensures lawful { IfOk result (IsLawful plan.now) }
     ensures end { IfOk result (λ line. end < end_of line) }
 {
-    // Called for its clause `plan`.
+    // Called for its clause `ring`.
     let _ = plan.count();
     let length = cycle_length(plan, cycle);
     let lead = length - cycle[0].offset % length;
@@ -124,7 +125,7 @@ pub(crate) fn cycle_length(plan: &PhasePlan, cycle: &[FixedRow]) -> u32
     ensures value { result ≡ cycle_length plan.now cycle.now }
     ensures bounds { result ≤ 1040 }
 {
-    // Called for its clause `plan`.
+    // Called for its clause `ring`.
     let _ = plan.count();
     let mut length = 0;
     for row in cycle {
@@ -141,7 +142,7 @@ fn span(plan: &PhasePlan, row: &FixedRow) -> u32
     ensures some { 0 < result }
     ensures bounds { result ≤ 260 }
 {
-    // Called for its clause `plan`.
+    // Called for its clause `ring`.
     let _ = plan.count();
     let times = plan.phase(row.phase as u8);
     row.green + times.yellow + times.clear

@@ -16,13 +16,13 @@ pub enum FixedFault {
     /// The row is one of no node.
     Node(u32),
     /// The row is not the next one up the ring of the node of the row before it, nor, where that one has all its rows,
-    /// the first of the next node.
+    /// at least two, the first of the next node.
     Phase(u32),
     /// The green is shorter than the least or longer than the greatest green of its phase.
     Green(u32),
     /// The offset is above 17,999, or not that of the node's other rows.
     Offset(u32),
-    /// The file ends before each unmarked phase of each node had a row.
+    /// The file ends before each unmarked phase of each node had a row, and each node two.
     Short,
 }
 

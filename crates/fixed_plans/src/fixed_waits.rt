@@ -25,8 +25,8 @@ pub fn law_of_cycles()
         → IsGreenBy (fixed_line net rows node) row.phase second (second + length) }
 {}
 
-/// Under a fixed plan each queue of a phase with a row whose green is longer than its start-up loses something within the length of
-/// the cycle and that start-up, where the run goes on as long.
+/// Under a fixed plan each queue of a link without a walk, whose phase has a row with a green longer than its start-up, loses something
+/// within the length of the cycle, that start-up and a second, where the run goes on as long.
 ///
 /// docs/RULES.md, "How long a queue can wait".
 pub fn law_of_fixed_waits()

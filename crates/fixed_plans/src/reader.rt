@@ -3,8 +3,8 @@ ghost use Rattle.std.specs.Prelude.{◌≡◌, ◌<◌, IfSome, None, [], length
 ghost use Rattle.fixed_plans.specs.Readers.{Adds, IsPlaced};
 
 use crate::faults::FixedFault;
-use crate::order::{comes_next, has_green, has_offset};
-use crate::rows::FixedRow;
+use crate::order::{as_before, comes_next, has_green, has_offset};
+use crate::rows::{Before, FixedRow};
 use road_net::Network;
 use std::alloc::Global;
 
@@ -13,8 +13,8 @@ use std::alloc::Global;
 pub(crate) struct PlanReader {
     /// The rows, in their order.
     pub rows: Vec<FixedRow>,
-    /// The last of them.
-    pub last: Option<FixedRow>,
+    /// The last of them, as the one before the next.
+    pub last: Option<Before>,
 }
 
 impl PlanReader {
@@ -51,6 +51,6 @@ pub(crate) fn add_row(
         return Err(FixedFault::Offset(number));
     }
     reader.rows.push(row)?;
-    reader.last = Some(row);
+    reader.last = Some(as_before(reader.last, row));
     Ok(())
 }

@@ -17,3 +17,12 @@ pub struct FixedRow {
 }
 
 impl CrossesThreads for FixedRow {}
+
+/// The row before another one.
+#[derive(Clone, Copy)]
+pub(crate) struct Before {
+    /// The row.
+    pub row: FixedRow,
+    /// Whether it is the first of its node.
+    pub first: bool,
+}

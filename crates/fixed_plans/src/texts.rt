@@ -15,7 +15,8 @@ use road_net::{Network, law_of_network};
 use std::alloc::Global;
 
 /// The fixed plan of a file, whose nodes stand by their names in the network: for each node, in the order of the
-/// nodes, one row for each unmarked phase of its ring, from phase 0 up; a marked phase may have a row.
+/// nodes, one row for each unmarked phase of its ring, from phase 0 up; a marked phase may have a row, and in a free ring at least two
+/// of them have one.
 ///
 /// The fault is out of memory; or `Header`, where the file does not begin with the header; or that of the first row at
 /// fault, within a row in the order `Row`, `Node`, `Phase`, `Green`, `Offset`; or else `Short`, where the file ends
