@@ -4,5 +4,6 @@ pub mod FieldLaws
 mod FixedBoundLaws
 pub mod FixedWaits
 pub mod LineLaws
+pub mod RedLaws
 pub mod RowLaws
 pub mod TextLaws

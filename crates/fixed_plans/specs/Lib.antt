@@ -4,5 +4,6 @@ pub mod Faults
 pub mod FixedBounds
 pub mod Lines
 pub mod Records
+pub mod Reds
 pub mod Rows
 pub use Rattle.waits.specs.Discharges

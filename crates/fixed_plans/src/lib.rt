@@ -10,6 +10,7 @@ mod fixed_waits;
 mod order;
 mod plan;
 mod reader;
+mod reds;
 mod rows;
 mod texts;
 
@@ -18,5 +19,6 @@ pub use cycles::fixed_lines;
 pub use faults::FixedFault;
 pub use fixed_waits::{law_of_cycles, law_of_fixed_waits};
 pub use plan::FixedPlan;
+pub use reds::{fixed_reds, law_of_fixed_reds};
 pub use rows::FixedRow;
 pub use texts::read_fixed_plan;
