@@ -209,7 +209,8 @@ def green_warnings(node: Node, loads: Sequence[float], has_recall: bool) -> Iter
     for number, phase in enumerate(node.phases):
         if phase.skip and loads[number] > 0 and not has_recall:
             words = "skip = true: a plan may leave it out time after time, and nothing bounds how long its vehicles wait"
-            yield f"{node.name}: phase {number}: {words}; write recall or age in [run] or a weight of its links, or leave skip out"
+            of_all = " of all its phases" if all(each.skip for each in node.phases) else ""
+            yield f"{node.name}: phase {number}: {words}; write recall or age in [run] or a weight of its links, or leave skip out{of_all}"
         if phase.least <= phase.loss:
             words = f"least = {phase.least} is not above loss = {phase.loss}: a green of the least length serves no queue"
             yield f"{node.name}: phase {number}: {words}; write least = {phase.loss + 1} or more"

@@ -339,7 +339,7 @@ def _bound_faults(net: NetworkFile, section: str, table: dict[str, Any]):
     if "name" in table and not NAME.fullmatch(table["name"]):
         yield "name", f"the name is {quote(table['name'])}, and has to be 1 to 16 characters out of a to z, 0 to 9 and _"
     if section == "node":
-        yield from _node_faults(table)
+        yield from _node_faults(table, net.tables.get("version") == 3)
     for key, (least, most, unit) in BOUNDS.get(section, {}).items():
         if key in table:
             yield from _number_faults(table, key, least, most, unit)
@@ -352,12 +352,17 @@ def _bound_faults(net: NetworkFile, section: str, table: dict[str, Any]):
         yield "turn", f"it has {plural(len(table['turn']), 'turn')}, and may have at most {TURNS_MOST}"
 
 
-def _node_faults(table: dict[str, Any]):
+def _node_faults(table: dict[str, Any], is_third: bool):
     count, marks = len(table["phase"]), sum(phase.get("skip", False) for phase in table["phase"])
     if not 2 <= count <= 4:
         yield "phase", f"it has {plural(count, 'phase')}, and has to have 2 to 4"
-    elif count - marks < 2:
-        yield "phase", f"{marks} of its {count} phases have skip = true, and at least two have to be without it"
+    elif count - marks < 2 and not (is_third and marks == count):
+        words = f"{marks} of its {count} phases have skip = true, and at least two have to be without it"
+        if is_third:
+            words += ", or none"
+        elif marks == count:
+            words += " (in a file with version = 3 all may have it)"
+        yield "phase", words
 
 
 def _number_faults(table: dict[str, Any], key: str, least: int, most: int, unit: str):

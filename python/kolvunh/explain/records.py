@@ -180,8 +180,8 @@ def plan_fault(rows: RecordFile, code: str, number: int) -> list[str]:
     return [rows.say(number, words + ": all rows of a node have one offset")] if int(before.fields[3]) != int(offset) else []
 
 
-def phases_after(net: NetworkFile, node: int, phase: int) -> list[tuple[int, int]]:
-    """The nodes and phases of which a row may follow in a fixed plan, after that of this phase of this node; -1 before the first."""
+def phases_after(net: NetworkFile, node: int, phase: int, is_only: bool) -> list[tuple[int, int]]:
+    """The nodes and phases of which a row may follow in a fixed plan, after that of this phase of this node, which is its only one so far or not."""
     found = []
     while node < len(net.tables_of("node")):
         phases = net.tables_of("node")[node]["phase"]
@@ -189,6 +189,8 @@ def phases_after(net: NetworkFile, node: int, phase: int) -> list[tuple[int, int
             found.append((node, further))
             if not phases[further].get("skip", False):
                 return found
+        if is_only:
+            return found
         node, phase = node + 1, -1
         if node < len(net.tables_of("node")):
             return [*found, (node, 0)]
@@ -202,7 +204,10 @@ def next_phases(rows: RecordFile, number: int) -> list[str]:
         found = [(0, 0)]
     else:
         before = rows.row(number - 1).fields
-        found = phases_after(net, net.names("node").index(before[0]), int(before[1]))
+        is_only = number == 2 or rows.row(number - 2).fields[0] != before[0]
+        found = phases_after(net, net.names("node").index(before[0]), int(before[1]), is_only)
+        if is_only and not found:
+            return [f"a row of an earlier phase of node {quote(before[0])} before that of its last"]
     return [f"phase {phase} of node {quote(net.names('node')[node])}" for node, phase in found] or ["no row more"]
 
 

@@ -186,6 +186,8 @@ def follow_words(node: dict[str, Any], before: list[int], green: list[int]) -> s
     passed = [number for number in between[: between.index(green[0])] if not phases[number].get("skip", False)]
     if passed:
         return f"phase {green[0]} follows phase {phase}, and phase {passed[0]}, without skip, is between them in the ring"
+    if green[0] == phase:
+        return f"phase {phase} follows itself, and each green has to be of another phase than the one before it"
     free = end + phases[phase]["yellow"] + phases[phase]["clear"]
     if green[1] < free:
         yellow, clear = phases[phase]["yellow"], phases[phase]["clear"]
