@@ -10,7 +10,7 @@ use Rattle.std.proofs.lemmas.List.Sums.{sum_by-cons, sum-map, get_or-le-sum_by}
 use Rattle.std.proofs.lemmas.Option.{cond_some}
 pub use Rattle.foundation.proofs.OptionLaws.{option-cases}
 pub use Rattle.foundation.proofs.ResultLaws.{result-cases}
-use Rattle.phase_plan.specs.Phases.{IsPhase, IsPlan, phase_at, no_phase}
+use Rattle.phase_plan.specs.Phases.{IsPhase, IsRing, phase_at, no_phase}
 use Rattle.phase_plan.specs.declared.Phase.{Phase}
 use Rattle.switch_rules.specs.Serving.{serving, IsServing}
 use Rattle.switch_rules.specs.Orders.{one_less}
@@ -88,14 +88,14 @@ pub none-unless : {X : Type 0} (o : Option X) → ((x : X) → o ≡ Some x → 
 none-unless None h = refl
 none-unless (Some x) h = absurd (h x refl)
 
-IsPlan-at : (plan : List Phase) (k : ℕ) → IsPlan plan → k < length plan → IsPhase (phase_at plan k)
-IsPlan-at plan k h inside = h.phases k no_phase inside
+phase-bounds : (plan : List Phase) (k : ℕ) → IsRing plan → k < length plan → IsPhase (phase_at plan k)
+phase-bounds plan k h inside = h.phases k no_phase inside
 
 -- a sequence from an instance's head is on its way
 pub under-way-start : (p : Problem) → IsInstance p → IsUnderWay p (counts_of p.lists) p.head 0
 under-way-start p i = record {
   head = i.head;
-  reach = omega (arith, i.head.within, i.since, (IsPlan-at p.plan p.head.phase i.plan i.head.phase).greatest.1);
+  reach = omega (arith, i.head.within, i.since, (phase-bounds p.plan p.head.phase i.plan i.head.phase).greatest.1);
   lists = length-map p.lists length;
   left = λ k. omega (arith, get_or-counts p.lists k);
   delay = omega (arith, i.few);

@@ -1,18 +1,21 @@
-use Rattle.std.proofs.Common.{◌≡◌, ℕ, ◌+◌, ◌*◌, ◌^◌, ◌<◌, ◌≤◌, List, [], ◌∷◌, ◌++◌, length, map, sum, sum_by, get_or, All, Result, Ok, Err, IfOk, ap, length-append, zero, suc, arith}
+use Rattle.std.proofs.Common.{◌≡◌, ◌≢◌, ℕ, true, false, count_by, refl, ◌+◌, ◌*◌, ◌^◌, ◌<◌, ◌≤◌, Bool, List, [], ◌∷◌, ◌++◌, length, map, sum, sum_by, get_or, All, Result, Ok, Err, IfOk, sym, ap, subst, length-append, zero, suc, arith}
 use Rattle.std.specs.List.{flat_map, concat, join_with_byte}
 use Rattle.std.specs.Fmt.{decimal}
 use Rattle.std.specs.Prelude.{codes}
 use Rattle.std.proofs.lemmas.List.Concat.{flat_map-cons}
+use Rattle.std.proofs.lemmas.Bool.{eqb-false, ne_eqb}
 use Rattle.std.proofs.lemmas.List.Sums.{sum-map}
 use Rattle.phase_plan.specs.declared.Phase.{Phase}
 use Rattle.switch_rules.specs.declared.Head.{Head}
 use Rattle.switch_rules.specs.declared.Cluster.{Cluster}
 use Rattle.instance_form.specs.declared.form.Version.{Version}
-use Rattle.instance_form.specs.InstanceText.{version_of, line, first_line, count_line, phase_line, head_line, cluster_numbers, cluster_line, cluster_lines, form_text, instance_text}
+use Rattle.instance_form.specs.InstanceText.{version_of, line, first_line, count_line, phase_line, head_line, cluster_numbers, cluster_line, cluster_lines, form_text, instance_text, whole_text, HasText, IsFreeWhere, IsWritable, IsWritableCluster}
+use Rattle.phase_plan.specs.Phases.{IsPhase, IsRing, is_free, is_unmarked, no_phase}
+use Rattle.switch_rules.specs.Serving.{IsCluster}
 use Rattle.instance_form.specs.Lengths.{most_cluster_bytes, most_other_bytes}
 use Rattle.instance_form.proofs.LengthLaws.{text-le}
-use Rattle.schedule_meaning.specs.Instances.{Problem, counts_of}
-use Rattle.schedule_meaning.specs.Texts.{IsInstanceText}
+use Rattle.schedule_meaning.specs.Instances.{Problem, IsInstance, counts_of}
+use Rattle.schedule_meaning.specs.Texts.{IsInstanceText, IsPlanWhere}
 
 -- a list is no longer than what has at least one element for each of its own
 longer-flat_map : {X A : Type 0} (f : X → List A) → ((x : X) → 1 ≤ length (f x)) → (xs : List X) → length xs ≤ length (flat_map f xs)
@@ -37,18 +40,61 @@ longer-concat (b ∷ before) xs after = omega (arith, length-append b (concat (b
 below : (a b c d n : ℕ) → a ≤ b → b ≤ c → d ≡ c → d < n → a < n
 below a b c d n f g e h = omega arith
 
-pub lists-below-text : (plan : List Phase) (h : Head) (lists : List (List Cluster)) (bytes : List ℕ) → bytes ≡ instance_text plan h lists → length bytes < 2 ^ 32 → All (λ list. length list < 2 ^ 32) lists
-unfolding instance_text form_text
-lists-below-text plan h lists bytes e short = λ i d inside.
-    let v = version_of plan lists in
-    below (length (get_or lists i d)) (length (cluster_lines v 0 lists)) (length (instance_text plan h lists)) (length bytes) (2 ^ 32) (lists-le-lines v 0 lists i d inside)
+pub lists-below-text : (free : Bool) (plan : List Phase) (h : Head) (lists : List (List Cluster)) (bytes : List ℕ) → bytes ≡ whole_text free plan h lists → length bytes < 2 ^ 32 → All (λ list. length list < 2 ^ 32) lists
+unfolding whole_text form_text
+lists-below-text free plan h lists bytes e short = λ i d inside.
+    let v = version_of free plan lists in
+    below (length (get_or lists i d)) (length (cluster_lines v 0 lists)) (length (whole_text free plan h lists)) (length bytes) (2 ^ 32) (lists-le-lines v 0 lists i d inside)
     (longer-concat (first_line v ∷ count_line (length plan) ∷ flat_map (phase_line v) plan ∷ head_line h ∷ []) (cluster_lines v 0 lists) (line (codes "end" ∷ []) ∷ []))
     (ap length e) short
+
+-- the ring of a plan is free where it may be, all of its phases being marked
+pub free-is : (free : Bool) (plan : List Phase) → IsFreeWhere free plan → IsPlanWhere free plan → is_free plan ≡ free
+free-is true plan ring law = ring refl
+free-is false plan ring law = ne_eqb (count_by is_unmarked plan) 0 (λ e. omega (arith, law.ring, e))
+
+-- and the plan of an instance is one where it is free
+pub plan-where : (plan : List Phase) → IsRing plan → IsPlanWhere (is_free plan) plan
+plan-where plan law = by (is_free plan) refl
+  where
+    by : (b : Bool) → is_free plan ≡ b → IsPlanWhere b plan
+    by true e = law
+    by false e =
+        let some : count_by is_unmarked plan ≢ 0 = eqb-false (count_by is_unmarked plan) 0 e in
+        let others : count_by is_unmarked plan ≢ 1 = law.ring in
+        record { count = law.count; phases = law.phases; ring = omega arith }
+
+pub form-plan : (free : Bool) (plan : List Phase) (p : Problem) → free ≡ is_free p.plan → plan ≡ p.plan → IsInstance p → IsPlanWhere free plan
+form-plan free plan p ring same law = subst (λ (b : Bool). IsPlanWhere b plan) (sym ring) (subst (IsPlanWhere (is_free p.plan)) (sym same) (plan-where p.plan law.plan))
+
+-- an instance has a text
+
+phase-fits : (p : Phase) → IsPhase p → IsWritable p
+phase-fits p h = record {
+  least = omega (arith, h.least);
+  greatest = omega (arith, h.greatest);
+  yellow = omega (arith, h.yellow);
+  clear = omega (arith, h.clear);
+  loss = omega (arith, h.loss);
+  wait = omega (arith, h.wait);
+}
+
+cluster-fits : (c : Cluster) → IsCluster c → IsWritableCluster c
+cluster-fits c h = record { size = omega (arith, h.size); load = omega (arith, h.size, h.load); arr = omega (arith, h.arr); len = omega (arith, h.len) }
+
+pub has-text : (p : Problem) → IsInstance p → HasText p.plan p.head p.lists
+has-text p h = record {
+  count = h.plan.count;
+  each = h.lists;
+  phases = λ i d inside. phase-fits (get_or p.plan i d) (h.plan.phases i d inside);
+  head = record { phase = omega (arith, h.head.phase, h.plan.count); since = omega (arith, h.since); at = omega (arith, h.head.within, h.since, (h.plan.phases p.head.phase no_phase h.head.phase).greatest) };
+  clusters = λ i d inside. λ j e within. cluster-fits (get_or (get_or p.lists i d) j e) (h.clusters i d inside j e within);
+}
 
 -- the text of an instance has fewer than 2^32 bytes
 short-text : (bytes : List ℕ) (p : Problem) → IsInstanceText bytes p → sum (counts_of p.lists) ≤ 40 → length bytes < 2 ^ 32
 short-text bytes p is_text few =
-    fits (length bytes) (length (instance_text p.plan p.head p.lists)) (sum_by (λ list. length list) p.lists) (sum (counts_of p.lists)) (ap length is_text.1) (text-le p.plan p.head p.lists is_text.0) (sum-map length p.lists) few
+    fits (length bytes) (length (instance_text p.plan p.head p.lists)) (sum_by (λ list. length list) p.lists) (sum (counts_of p.lists)) (ap length is_text.1) (text-le (is_free p.plan) p.plan p.head p.lists is_text.0) (sum-map length p.lists) few
   where
     fits : (n m c s : ℕ) → n ≡ m → m ≤ most_cluster_bytes * c + most_other_bytes → s ≡ c → s ≤ 40 → n < 2 ^ 32
     fits n m c s e f g h = omega arith

@@ -1,6 +1,6 @@
 -- What one intersection has to plan.
 use Rattle.std.specs.Prelude.{◌≡◌, ◌≤◌, List, length, All, sum}
-use Rattle.phase_plan.specs.Phases.{IsPlan}
+use Rattle.phase_plan.specs.Phases.{IsRing}
 use Rattle.phase_plan.specs.declared.Phase.{Phase}
 use Rattle.switch_rules.specs.Bounds.{latest_arrival, most_clusters, most_orders}
 use Rattle.switch_rules.specs.Serving.{IsHead, IsCluster}
@@ -17,7 +17,7 @@ pub record Problem : Type 0 where
 
 -- an instance: a problem within its bounds
 pub record IsInstance (p : Problem) : Type 0 where
-  pub plan : IsPlan p.plan
+  pub plan : IsRing p.plan
   pub head : IsHead p.plan p.head
   pub since : p.head.since ≤ latest_arrival
   pub lists : length p.lists ≡ length p.plan

@@ -2,7 +2,7 @@
 
 ghost use Rattle.std.specs.Prelude.{◌≡◌, ◌+◌, ◌^◌, ◌<◌, ◌≤◌, All, length, map, sum, take, IfOk, IfErr, IfNone, IfSome, IsTrue, OnOk, ◌↔◌};
 ghost use Rattle.foundation.specs.Firsts.{IsFirstWithout};
-ghost use Rattle.phase_plan.specs.Phases.{IsPlan};
+ghost use Rattle.phase_plan.specs.Phases.{IsRing};
 ghost use Rattle.switch_rules.specs.Bounds.{latest_arrival, most_clusters, most_orders};
 ghost use Rattle.switch_rules.specs.Serving.{IsHead, IsCluster};
 ghost use Rattle.switch_rules.specs.Orders.{orders};
@@ -157,7 +157,7 @@ fn copy_lists(alloc: Global, lists: &[Items<Cluster>]) -> Result<Items<Items<Clu
 
 /// Refuses a head whose phase is none of the plan, or whose times are out of bounds.
 fn check_head(plan: &PhasePlan, head: &Head) -> Result<(), InstanceFault>
-    ensures ok { OnOk result (IsPlan plan.now × IsHead plan.now head.now × (head.now.since ≤ latest_arrival)) }
+    ensures ok { OnOk result (IsRing plan.now × IsHead plan.now head.now × (head.now.since ≤ latest_arrival)) }
     ensures first { IfErr result (IsHeadFault plan.now head.now) }
 {
     if head.phase >= plan.count() {

@@ -13,4 +13,4 @@ pub use instances::Instance;
 pub use listing::{ServingsFault, servings};
 pub use planners::{Answer, PlainPlanner, Planner, best_answer};
 pub use replays::{Timed, replay};
-pub use texts::{TextFault, read_instance, write_instance};
+pub use texts::{TextFault, plan_where, read_instance, write_instance};

@@ -1,15 +1,15 @@
 //! The text of an instance.
 
-ghost use Rattle.std.specs.Prelude.{◌≡◌, ◌^◌, ◌<◌, IfOk, IfErr, MatchResult, length};
+ghost use Rattle.std.specs.Prelude.{◌≡◌, ◌^◌, ◌<◌, IfOk, IfErr, OnErr, MatchResult, length, vec_len};
 ghost use Rattle.instance_form.specs.InstanceText.{instance_text};
 ghost use Rattle.schedule_meaning.specs.Instances.{Problem, IsInstance};
-ghost use Rattle.schedule_meaning.specs.Texts.{IsTextFault, IsOutOfMemory, IsInstanceText};
+ghost use Rattle.schedule_meaning.specs.Texts.{IsTextFault, IsOutOfMemory, IsInstanceText, IsPlanWhere, IsPlanFaultWhere};
 
 use super::faults::InstanceFault;
 use super::instances::Instance;
 use foundation::threads::CrossesThreads;
 use instance_form::{FormFault, read_form, write_form};
-use phase_plan::{PhasePlan, PlanFault};
+use phase_plan::{Phase, PhasePlan, PlanFault};
 use std::alloc::{AllocError, Global};
 
 /// Why a text is no instance's.
@@ -58,13 +58,29 @@ pub fn read_instance(alloc: Global, bytes: &[u8]) -> Result<Instance, TextFault>
     ensures first { IfErr result (IsTextFault bytes.now) }
 {
     let form = read_form(alloc, bytes)?;
-    let plan = match PhasePlan::new(form.phases) {
+    let plan = match plan_where(form.free_ring, form.phases) {
         Ok(plan) => plan,
         Err(fault) => return Err(TextFault::Plan(fault)),
     };
     match Instance::new(plan, form.head, form.lists) {
         Ok(instance) => Ok(instance),
         Err(fault) => Err(TextFault::Instance(fault)),
+    }
+}
+
+/// The plan of these phases, fewer than 2^32, whose ring may be free or not.
+///
+/// docs/RULES.md, "Phases".
+pub fn plan_where(free_ring: bool, phases: Vec<Phase>) -> Result<PhasePlan, PlanFault>
+    requires { vec_len phases < 2 ^ 32 }
+    ensures ok { IfOk result (λ plan. (plan ≡ phases.items) × IsPlanWhere free_ring phases.items) }
+    ensures refused { OnErr result (¬ IsPlanWhere free_ring phases.items) }
+    ensures first { IfErr result (IsPlanFaultWhere free_ring phases.items) }
+{
+    if free_ring {
+        PhasePlan::new_or_free(phases)
+    } else {
+        PhasePlan::new(phases)
     }
 }
 
@@ -78,5 +94,6 @@ pub fn write_instance(alloc: Global, i: &Instance) -> Result<Vec<u8>, AllocError
     ensures is_text { IfOk result (λ text. IsInstanceText text.items i.now) }
     ensures short { IfOk result (λ text. length text.items < 2 ^ 32) }
 {
-    write_form(alloc, i.plan().phases(), &i.head(), i.lists())
+    let plan = i.plan();
+    write_form(alloc, plan.is_free(), plan.phases(), &i.head(), i.lists())
 }
