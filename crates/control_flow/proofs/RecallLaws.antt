@@ -12,7 +12,7 @@ use Rattle.phase_plan.specs.declared.Phase.{Phase}
 use Rattle.switch_rules.specs.Serving.{IsHead}
 use Rattle.switch_rules.specs.declared.Head.{Head}
 use Rattle.control_flow.specs.Greens.{Follows, IsGreen, IsLawful, no_green, row_at}
-use Rattle.control_flow.specs.Recalls.{any_recalled, loses_mark, recalled, without_mark, without_marks}
+use Rattle.control_flow.specs.Recalls.{lose_all, loses_mark, recalled, without_mark, without_marks}
 use Rattle.control_flow.specs.declared.greens.Green.{Green}
 
 module _ (plan : List Phase) (these : ℕ → Bool) where
@@ -115,7 +115,7 @@ kept plan calls k h keeps t =
     ap not (sym same) ∙ t
 
 -- the phases that are recalled are among those of which any is
-none-recalled : (plan : List Phase) (calls : ℕ → Bool) → any_recalled plan calls ≡ false → (k : ℕ) → k < length plan → calls k ≡ false
+none-recalled : (plan : List Phase) (calls : ℕ → Bool) → list_any calls (range_with_len 0 (length plan)) ≡ false → (k : ℕ) → k < length plan → calls k ≡ false
 none-recalled plan calls none k h = none-of-range calls 0 (length plan) none k (omega arith) (omega arith)
   where
     none-of-range : (test : ℕ → Bool) (a n : ℕ) → list_any test (range_with_len a n) ≡ false → (k : ℕ) → a ≤ k → k < a + n → test k ≡ false
@@ -152,13 +152,13 @@ ring-still plan calls p = record {
     bound e one = (let some = eqb-false (count_by is_unmarked plan) 0 e in p.ring (omega (arith, more, one, some)))
 
     free : is_free plan ≡ true → count_by is_unmarked (recalled plan calls) ≢ 1
-    free e one = elim (cases_Bool (any_recalled plan calls)) [
+    free e one = elim (cases_Bool (list_any calls (range_with_len 0 (length plan)))) [
       | inl any ↦
-          let loses = λ (k : ℕ). or_right (calls k) (is_free plan && any_recalled plan calls) (and_from (is_free plan) (any_recalled plan calls) e any) in
+          let loses = λ (k : ℕ). or_right (calls k) (lose_all plan calls) (and_from (is_free plan) (list_any calls (range_with_len 0 (length plan))) e any) in
           let all = count-all (recalled plan calls) (λ k h. lost plan calls k (omega (arith, h, length-recalled plan calls)) (loses k)) in
           omega (arith, all, one, p.count.0, length-recalled plan calls)
       | inr none ↦
-          let keeps = λ (k : ℕ) (h : k < length plan). or_from (calls k) (is_free plan && any_recalled plan calls) (none-recalled plan calls none k h) (and_right (is_free plan) (any_recalled plan calls) none) in
+          let keeps = λ (k : ℕ) (h : k < length plan). or_from (calls k) (lose_all plan calls) (none-recalled plan calls none k h) (and_right (is_free plan) (list_any calls (range_with_len 0 (length plan))) none) in
           let fewer = count-more (recalled plan calls) plan (length-recalled plan calls) (λ k h. kept plan calls k (omega (arith, h, length-recalled plan calls)) (keeps k (omega (arith, h, length-recalled plan calls)))) in
           omega (arith, fewer, one, eqb-true (count_by is_unmarked plan) 0 e)
     ]

@@ -12,13 +12,13 @@ without_mark plan these k = record (phase_at plan k) { skip = (phase_at plan k).
 abbrev pub without_marks : List Phase → (ℕ → Bool) → List Phase
 without_marks plan these = map (without_mark plan these) (range_with_len 0 (length plan))
 
--- whether any phase of a plan is recalled
-abbrev pub any_recalled : List Phase → (ℕ → Bool) → Bool
-any_recalled plan is_recalled = list_any is_recalled (range_with_len 0 (length plan))
+-- whether all phases of a plan lose their marks: its ring is free, and any phase is recalled
+abbrev pub lose_all : List Phase → (ℕ → Bool) → Bool
+lose_all plan is_recalled = is_free plan && list_any is_recalled (range_with_len 0 (length plan))
 
--- whether a phase loses its mark: where it is recalled, and in a free ring where any phase is
+-- whether a phase loses its mark: it is recalled, or all lose theirs
 abbrev pub loses_mark : List Phase → (ℕ → Bool) → ℕ → Bool
-loses_mark plan is_recalled k = is_recalled k || (is_free plan && any_recalled plan is_recalled)
+loses_mark plan is_recalled k = is_recalled k || lose_all plan is_recalled
 
 -- the plan in which no phase that is recalled has a mark, and in a free ring with such a phase none at all
 abbrev pub recalled : List Phase → (ℕ → Bool) → List Phase
