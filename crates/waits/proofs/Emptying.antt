@@ -3,7 +3,7 @@ use Rattle.std.proofs.Common.{◌≡◌, ℕ, zero, suc, ◌+◌, ◌-◌, ◌*�
 use Rattle.std.proofs.lemmas.Bool.{cases_lt}
 use Rattle.std.proofs.lemmas.List.Elements.{All-get_or}
 use Rattle.std.proofs.lemmas.Option.{same_Some}
-use Rattle.phase_plan.specs.Phases.{IsPlan, is_unmarked_at, phase_at}
+use Rattle.phase_plan.specs.Phases.{IsRing, is_unmarked_at, phase_at}
 use Rattle.phase_plan.specs.declared.Phase.{Phase}
 use Rattle.control_flow.specs.Greens.{IsGreen, IsLawful, end_of, green_at, row_at}
 use Rattle.control_flow.specs.declared.greens.Green.{Green}
@@ -53,7 +53,7 @@ whole-of plan rows k x from to one after room = record {
   found = one.found;
 }
 
-pub whole : (plan : List Phase) (p : IsPlan plan) (rows : List Green) (k most : ℕ) → IsLawful plan rows → IsGreenWithin rows k most → (n : ℕ) → (row_at rows 0).from ≤ n → n + (phase_at plan k).greatest + most < end_of rows
+pub whole : (plan : List Phase) (p : IsRing plan) (rows : List Green) (k most : ℕ) → IsLawful plan rows → IsGreenWithin rows k most → (n : ℕ) → (row_at rows 0).from ≤ n → n + (phase_at plan k).greatest + most < end_of rows
     → IsWhole plan rows k n (n + ((phase_at plan k).greatest + most + (phase_at plan k).greatest))
 whole plan p rows k most lawful turns n begun end =
     let first = turns n begun (omega (arith, end)) in
@@ -91,7 +91,7 @@ module _ (net : Net) (arriving : ℕ → ℕ → ℕ) (seen : ℕ → ℕ → Si
 
 -- the law, for lines
 module _ (net : Net) (network : IsNetwork net) (arriving : ℕ → ℕ → ℕ) (lines : ℕ → List Green) (l node : ℕ) (inside : l < length net.link_names) (ends : (link_at net l).to ≡ Some node) (plain : (link_at net l).walk ≡ None)
-    (p : IsPlan (plan_at net node)) (lawful : IsLawful (plan_at net node) (lines node)) where
+    (p : IsRing (plan_at net node)) (lawful : IsLawful (plan_at net node) (lines node)) where
   abbrev k : ℕ
   k = (link_at net l).phase
 
@@ -154,11 +154,11 @@ emptying-law net network arriving lines intergreen l node now n turns inside end
     let link : IsLink (length net.node_names) (link_at net l) = All-get_or (IsLink (length net.node_names)) net.links l no_link (let f = network.outline.road_count in omega (arith, f, inside)) network.outline.links in
     let there : node < length net.node_names = subst (λ (o : Option ℕ). IfSome o (λ n. n < length net.node_names)) ends link.to in
     let plan = plan_at net node in
-    let p : IsPlan plan = All-get_or IsPlan net.plans node [] (let e = network.outline.plan_count in omega (arith, e, there)) network.outline.plans in
+    let p : IsRing plan = All-get_or IsRing net.plans node [] (let e = network.outline.plan_count in omega (arith, e, there)) network.outline.plans in
     let k = (link_at net l).phase in
     let below : k < length plan = ((served net network.outline network.joins).entries l node inside ends).0 in
     let most = longest_way plan intergreen k k in
-    let turning : IsGreenWithin (lines node) k most = within plan p intergreen k below free (lines node) lawful intergreens in
+    let turning : IsGreenWithin (lines node) k most = within plan p.phases intergreen k below free (lines node) lawful intergreens in
     let m = n + turns * whole_green_within plan intergreen k in
     let lost = turns-lose net network arriving lines l node inside ends plain p lawful most n now turns turning begun room end in
     let same = in-past net arriving (signs_by lines) l inside now n (omega (arith, room)) in

@@ -1,7 +1,7 @@
 -- The intergreens of the timelines that controllers make.
-use Rattle.std.proofs.Common.{◌≡◌, ℕ, zero, suc, ◌+◌, ◌<◌, ◌≤◌, ◌⊎◌, Bool, ltb, List, [], ◌∷◌, ◌++◌, length, Some, refl, sym, ap, subst, ◌∙◌, inl, inr, arith}
+use Rattle.std.proofs.Common.{◌≡◌, ℕ, zero, suc, ◌+◌, ◌<◌, ◌≤◌, ◌⊎◌, Bool, ltb, List, [], ◌∷◌, ◌++◌, length, Some, refl, sym, ap, subst, ◌∙◌, inl, inr, arith, All}
 use Rattle.std.proofs.lemmas.Bool.{cases_lt, cond_above, cond_below, cond_both}
-use Rattle.phase_plan.specs.Phases.{IsPlan, is_unmarked_at, passed_numbers, passing, phase_at}
+use Rattle.phase_plan.specs.Phases.{IsRing, is_unmarked_at, passed_numbers, passing, phase_at, IsPhase}
 use Rattle.phase_plan.specs.declared.Phase.{Phase}
 use Rattle.switch_rules.specs.Serving.{IsHead, earliest_green, head_after}
 use Rattle.switch_rules.specs.declared.Head.{Head}
@@ -9,7 +9,7 @@ use Rattle.switch_rules.specs.declared.Served.{Served}
 use Rattle.control_flow.specs.Greens.{GoesOn, IsLawful, head_at, row_after, row_at, rows_before, spliced}
 use Rattle.control_flow.specs.Timelines.{AreServings, begin_after, green_after, last_end, left_for, line_of, shortest_greens, turned, turning}
 use Rattle.control_flow.specs.declared.greens.Green.{Green}
-use Rattle.control_flow.proofs.OrderLaws.{green-length}
+use Rattle.control_flow.proofs.OrderLaws.{green-lasts}
 use Rattle.control_flow.proofs.RingLaws.{begin_after-passed}
 use Rattle.control_flow.proofs.RowLaws.{lawful-first, lawful-next, lawful-tail}
 use Rattle.control_flow.proofs.ServingLaws.{IsServingOf-head, IsServingOf-keeps}
@@ -77,7 +77,7 @@ module _ (plan : List Phase) (look : ℕ) where
       let later = shortest-intergreens ks first b rows begins next others in
       intergreens-cons (longest_intergreen plan look) row (first ∷ shortest_greens plan (from + passing (phase_at plan k)) ks ++ rows) (λ h. omega arith) (rw same later)
 
-  module _ (p : IsPlan plan) where
+  module _ (p : IsRing plan) where
     left-intergreens : (head : Head) (k b by : ℕ) (rows : List Green) → (0 < length rows → (row_at rows 0).from ≡ b) → by ≤ head.at + look → (b ≤ by) ⊎ (b ≡ earliest_green plan head k) → AreIntergreensWithin (longest_intergreen plan look) rows
         → AreIntergreensWithin (longest_intergreen plan look) (left_for plan head (last_end plan head k b) (passed_numbers plan head.phase k) ++ rows)
     left-intergreens head k b by rows begins near soon others =
@@ -108,7 +108,7 @@ module _ (plan : List Phase) (look : ℕ) where
 
 -- a splice keeps the intergreens
 
-module _ (plan : List Phase) (p : IsPlan plan) (intergreen : ℕ → ℕ) where
+module _ (plan : List Phase) (p : All IsPhase plan) (intergreen : ℕ → ℕ) where
   begins-later : (first : Green) (rows : List Green) (now : ℕ) (row : Green) → IsLawful plan (first ∷ rows) → row_after rows now ≡ Some row → first.to ≤ row.from
   begins-later first [] now row lawful e = let impossible : first.to ≤ row.from = cc in impossible
   begins-later first (next ∷ rows) now row lawful e =
@@ -136,7 +136,7 @@ module _ (plan : List Phase) (p : IsPlan plan) (intergreen : ℕ → ℕ) where
   past-row r rs now row first lawful e same h =
       let found = cond_above now r.to (Some r) (row_after rs now) (row_after rs now) h refl ∙ e in
       let later = begins-later r rs now row lawful found in
-      let long = green-length plan r p (lawful-first plan r rs lawful) in
+      let long = green-lasts plan r p (lawful-first plan r rs lawful) in
       (found, omega (arith, same, later, long))
 
   -- the first of what is kept, or else of what comes after it, begins as the old one does

@@ -9,14 +9,14 @@ use Rattle.std.proofs.lemmas.List.FromFn.{get_or-range_with_len, length-range_wi
 use Rattle.std.proofs.lemmas.Nat.{mod_below}
 use Rattle.std.proofs.lemmas.Option.{none-some, same_Some}
 use Rattle.std.proofs.Math.Nat.{mul-le-mul_right}
-use Rattle.phase_plan.specs.Phases.{IsPlan, between, is_unmarked_at, no_phase, phase_at}
+use Rattle.phase_plan.specs.Phases.{IsRing, between, is_unmarked_at, no_phase, phase_at}
 use Rattle.phase_plan.specs.declared.Phase.{Phase}
 use Rattle.control_flow.specs.Greens.{IsGreen, IsLawful, end_of, row_after, row_at}
-use Rattle.control_flow.specs.Recalls.{recalled}
+use Rattle.control_flow.specs.Recalls.{without_marks}
 use Rattle.control_flow.specs.Signs.{sign_at}
 use Rattle.control_flow.specs.declared.greens.Green.{Green}
 use Rattle.control_flow.specs.declared.greens.Sign.{Sign}
-use Rattle.control_flow.proofs.RecallLaws.{lawful-still, length-recalled, plan-still, recalled-at}
+use Rattle.control_flow.proofs.RecallLaws.{lawful-without, length-without, without-at}
 use Rattle.control_flow.proofs.RowLaws.{lawful-tail}
 use Rattle.control_flow.proofs.SpliceLaws.{row-of-head}
 use Rattle.net_parts.specs.Numbers.{Net, no_link}
@@ -34,7 +34,7 @@ use Rattle.waits.proofs.Recalled.{recalls}
 use Rattle.waits.proofs.Rounds.{kept}
 use Rattle.waits.proofs.Waiting.{driven-by, entered-later, in-past, left-later, passed, queue-is, queue-kept, waits}
 
--- ---- fewer recalls
+-- ---- fewer marks
 
 -- a mark that is taken away twice is taken away
 twice : (mark some more : Bool) → (some ≡ true → more ≡ true) → ((mark && not some) && not more) ≡ (mark && not more)
@@ -43,47 +43,47 @@ twice true false more within = refl
 twice false some more within = refl
 
 module _ (plan : List Phase) (some more : ℕ → Bool) (within : (k : ℕ) → some k ≡ true → more k ≡ true) where
-  recalled-twice : recalled (recalled plan some) more ≡ recalled plan more
-  recalled-twice = ext_get_or no_phase (recalled (recalled plan some) more) (recalled plan more) (length-recalled (recalled plan some) more ∙ length-recalled plan some ∙ sym (length-recalled plan more))
+  without-twice : without_marks (without_marks plan some) more ≡ without_marks plan more
+  without-twice = ext_get_or no_phase (without_marks (without_marks plan some) more) (without_marks plan more) (length-without (without_marks plan some) more ∙ length-without plan some ∙ sym (length-without plan more))
       (λ k inside.
-      let below : k < length plan = omega (arith, inside, length-recalled (recalled plan some) more, length-recalled plan some) in
-      recalled-at (recalled plan some) more k (omega (arith, below, length-recalled plan some))
-      ∙ ap (λ (p : Phase). let q : Phase = record p { skip = p.skip && not (more k) } in q) (recalled-at plan some k below)
+      let below : k < length plan = omega (arith, inside, length-without (without_marks plan some) more, length-without plan some) in
+      without-at (without_marks plan some) more k (omega (arith, below, length-without plan some))
+      ∙ ap (λ (p : Phase). let q : Phase = record p { skip = p.skip && not (more k) } in q) (without-at plan some k below)
       ∙ ap (λ (b : Bool). let q : Phase = record (phase_at plan k) { skip = b } in q) (twice (phase_at plan k).skip (some k) (more k) (within k))
-      ∙ sym (recalled-at plan more k below))
+      ∙ sym (without-at plan more k below))
 
-  -- what is lawful where more phases are recalled is lawful where fewer are
-  pub lawful-fewer : (rows : List Green) → IsLawful (recalled plan more) rows → IsLawful (recalled plan some) rows
-  lawful-fewer rows lawful = lawful-still (recalled plan some) more rows (subst (λ (p : List Phase). IsLawful p rows) (sym recalled-twice) lawful)
+  -- what is lawful where more phases have lost their marks is lawful where fewer have
+  pub lawful-fewer : (rows : List Green) → IsLawful (without_marks plan more) rows → IsLawful (without_marks plan some) rows
+  lawful-fewer rows lawful = lawful-without (without_marks plan some) more rows (subst (λ (p : List Phase). IsLawful p rows) (sym without-twice) lawful)
 
--- the plan in which this phase alone is recalled
+-- the plan in which this phase alone has lost its mark
 abbrev pub freed : List Phase → ℕ → List Phase
-freed plan k = recalled plan (λ j. j == k)
+freed plan k = without_marks plan (λ j. j == k)
 
 -- it is unmarked there
 freed-unmarked : (plan : List Phase) (k : ℕ) → k < length plan → is_unmarked_at (freed plan k) k ≡ true
 freed-unmarked plan k below =
-    ap (λ (p : Phase). not p.skip) (recalled-at plan (λ j. j == k) k below) ∙ ap (λ (b : Bool). not ((phase_at plan k).skip && not b)) (eq-eqb k k refl) ∙ by (phase_at plan k).skip
+    ap (λ (p : Phase). not p.skip) (without-at plan (λ j. j == k) k below) ∙ ap (λ (b : Bool). not ((phase_at plan k).skip && not b)) (eq-eqb k k refl) ∙ by (phase_at plan k).skip
   where
     by : (mark : Bool) → not (mark && false) ≡ true
     by true = refl
     by false = refl
 
--- a phase that is recalled keeps its times
-module _ (plan : List Phase) (is_recalled : ℕ → Bool) where
-  pub same-field : (field : Phase → ℕ) → ((p : Phase) (b : Bool) → (let q : Phase = record p { skip = b } in field q) ≡ field p) → (k : ℕ) → field (phase_at (recalled plan is_recalled) k) ≡ field (phase_at plan k)
+-- a phase that loses its mark keeps its times
+module _ (plan : List Phase) (these : ℕ → Bool) where
+  pub same-field : (field : Phase → ℕ) → ((p : Phase) (b : Bool) → (let q : Phase = record p { skip = b } in field q) ≡ field p) → (k : ℕ) → field (phase_at (without_marks plan these) k) ≡ field (phase_at plan k)
   same-field field same k = elim (cases_lt k (length plan)) [
-    | inl below ↦ ap field (recalled-at plan is_recalled k below) ∙ same (phase_at plan k) ((phase_at plan k).skip && not (is_recalled k))
-    | inr past ↦ ap field (get_or_past (recalled plan is_recalled) k no_phase (omega (arith, past, length-recalled plan is_recalled)) ∙ sym (get_or_past plan k no_phase past))
+    | inl below ↦ ap field (without-at plan these k below) ∙ same (phase_at plan k) ((phase_at plan k).skip && not (these k))
+    | inr past ↦ ap field (get_or_past (without_marks plan these) k no_phase (omega (arith, past, length-without plan these)) ∙ sym (get_or_past plan k no_phase past))
   ]
 
-  pub same-between : (s j : ℕ) → between (recalled plan is_recalled) s j ≡ between plan s j
-  same-between s j = ap (λ (n : ℕ). cond (ltb s j) (range_with_len (s + 1) (j - (s + 1))) (range_with_len (s + 1) (n - (s + 1)) ++ range_with_len 0 j)) (length-recalled plan is_recalled)
+  pub same-between : (s j : ℕ) → between (without_marks plan these) s j ≡ between plan s j
+  same-between s j = ap (λ (n : ℕ). cond (ltb s j) (range_with_len (s + 1) (j - (s + 1))) (range_with_len (s + 1) (n - (s + 1)) ++ range_with_len 0 j)) (length-without plan these)
 
   -- so no way is longer
-  same-way : (intergreen : ℕ → ℕ) (s j : ℕ) → longest_way (recalled plan is_recalled) intergreen s j ≡ longest_way plan intergreen s j
+  same-way : (intergreen : ℕ → ℕ) (s j : ℕ) → longest_way (without_marks plan these) intergreen s j ≡ longest_way plan intergreen s j
   same-way intergreen s j =
-      ap (λ (ks : List ℕ). intergreen s + sum_by (longest_span (recalled plan is_recalled) intergreen) ks) (same-between s j)
+      ap (λ (ks : List ℕ). intergreen s + sum_by (longest_span (without_marks plan these) intergreen) ks) (same-between s j)
       ∙ ap (λ (f : ℕ → ℕ). intergreen s + sum_by f (between plan s j)) (λ i x. same-field (λ (p : Phase). p.greatest) (λ p b. refl) x i + intergreen x)
 
 -- ---- when the green of a head begins
@@ -185,8 +185,8 @@ module _ (net : Net) (network : IsNetwork net) (arriving : ℕ → ℕ → ℕ) 
   there : node < length net.node_names
   there = subst (λ (o : Option ℕ). IfSome o (λ n. n < length net.node_names)) ends link-is.to
 
-  plan-is : IsPlan plan
-  plan-is = All-get_or IsPlan net.plans node [] (let e = network.outline.plan_count in omega (arith, e, there)) network.outline.plans
+  plan-is : IsRing plan
+  plan-is = All-get_or IsRing net.plans node [] (let e = network.outline.plan_count in omega (arith, e, there)) network.outline.plans
 
   below : k < length plan
   below = (network.served.entries l node inside ends).0
@@ -282,8 +282,8 @@ module _ (net : Net) (network : IsNetwork net) (arriving : ℕ → ℕ → ℕ) 
     green =
         let way = same-way plan (λ j. j == k) intergreen k k in
         subst (λ (most : ℕ). IsGreenBy (line last node) k second (second + most)) way
-        (recalls plan (λ j. j == k) plan-is (plan-still plan (λ j. j == k) plan-is) intergreen last (λ r. r * step) (λ r. line r node) (rounds-to last few) (λ r s h. mul-le-mul_right {m = r} {n = s} step h) first less freely
-        k (omega (arith, below, length-recalled plan (λ j. j == k))) (freed-unmarked plan k below) second (next-soon first (among last few first less)) (omega (arith, way, at-first.1, last-ends)))
+        (recalls plan (λ j. j == k) plan-is intergreen last (λ r. r * step) (λ r. line r node) (rounds-to last few) (λ r s h. mul-le-mul_right {m = r} {n = s} step h) first less freely
+        k (omega (arith, below, length-without plan (λ j. j == k))) (freed-unmarked plan k below) second (next-soon first (among last few first less)) (omega (arith, way, at-first.1, last-ends)))
 
     same-past : cumulative_under net arriving (signs_by (line last)) (n + wait) ≡ cumulative_under net arriving shown (n + wait)
     same-past = past-at-nodes net network arriving (signs_by (line last)) shown (n + wait) (λ x m early at. are.shows last x m few (omega (arith, early, at-last.0)) at)

@@ -3,7 +3,7 @@ use Rattle.std.proofs.Common.{◌≡◌, ℕ, ◌<◌, ◌≤◌, Bool, true, fa
 use Rattle.std.specs.Option.{option_map}
 use Rattle.std.proofs.lemmas.Option.{none-some, same_Some}
 use Rattle.std.proofs.lemmas.Bool.{and_left, and_parts, and_right, and_from, cases_Bool, eqb-true, le-leb, le-ltb, leb-true, lt-leb, lt-ltb, ltb-true, or_from}
-use Rattle.phase_plan.specs.Phases.{IsPlan}
+use Rattle.phase_plan.specs.Phases.{IsRing}
 use Rattle.phase_plan.specs.declared.Phase.{Phase}
 use Rattle.control_flow.specs.Greens.{IsGreen, IsInOrder, IsLawful, covers, green_at, is_green, row_at}
 use Rattle.control_flow.specs.Signs.{on_of, sign_at}
@@ -24,7 +24,7 @@ pub record IsShown (plan : List Phase) (rows : List Green) (k x : ℕ) : Type 0 
   pub found : (y : ℕ) → row.from ≤ y → y < row.to → green_at rows y ≡ Some row
   pub later : (row_at rows 0).from ≤ row.from
 
-module _ (plan : List Phase) (p : IsPlan plan) where
+module _ (plan : List Phase) (p : IsRing plan) where
   -- before a line's first row nothing is green
   none-yet : (rows : List Green) (k x : ℕ) → IsLawful plan rows → (0 < length rows → x < (row_at rows 0).from) → is_green rows k x ≡ false
   none-yet [] k x lawful before = refl

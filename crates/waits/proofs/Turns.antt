@@ -1,11 +1,11 @@
 -- Each unmarked phase has its green within a turn of the ring.
-use Rattle.std.proofs.Common.{◌≡◌, ℕ, suc, ◌+◌, ◌<◌, ◌≤◌, true, eqb, leb, ltb, ◌&&◌, IsTrue, List, [], ◌∷◌, length, ap, subst, inl, inr, arith}
+use Rattle.std.proofs.Common.{◌≡◌, ℕ, suc, ◌+◌, ◌<◌, ◌≤◌, true, eqb, leb, ltb, ◌&&◌, IsTrue, List, [], ◌∷◌, length, ap, subst, inl, inr, arith, All}
 use Rattle.std.proofs.lemmas.Bool.{and_from, cases_eq, cases_lt, eq-eqb, le-leb, lt-ltb, or_left, or_right}
-use Rattle.phase_plan.specs.Phases.{IsPlan, is_unmarked_at, phase_at}
+use Rattle.phase_plan.specs.Phases.{is_unmarked_at, phase_at, IsPhase}
 use Rattle.phase_plan.specs.declared.Phase.{Phase}
 use Rattle.control_flow.specs.Greens.{IsLawful, covers, end_of, is_green, row_at}
 use Rattle.control_flow.specs.declared.greens.Green.{Green}
-use Rattle.control_flow.proofs.OrderLaws.{green-length}
+use Rattle.control_flow.proofs.OrderLaws.{green-lasts}
 use Rattle.control_flow.proofs.RowLaws.{lawful-first, lawful-next, lawful-tail}
 use Rattle.waits.specs.Waits.{IsGreenBy, IsGreenWithin, AreIntergreensWithin, longest_way, longest_span}
 use Rattle.waits.proofs.Ring.{passes-by, turn-by}
@@ -32,7 +32,7 @@ later row rows k from to by = record {
   green = or_right ((eqb row.phase k) && covers row by.second) _ by.green;
 }
 
-module _ (plan : List Phase) (p : IsPlan plan) (intergreen : ℕ → ℕ) (k : ℕ) (below : k < length plan) (free : is_unmarked_at plan k ≡ true) where
+module _ (plan : List Phase) (p : All IsPhase plan) (intergreen : ℕ → ℕ) (k : ℕ) (below : k < length plan) (free : is_unmarked_at plan k ≡ true) where
   -- after a row the phase comes within the longest_way time
   comes : (row : Green) (rows : List Green) (low high : ℕ) → IsLawful plan (row ∷ rows) → AreIntergreensWithin intergreen (row ∷ rows) → (0 < length rows → low ≤ (row_at rows 0).from)
       → row.to + longest_way plan intergreen row.phase k ≤ high → high < end_of (row ∷ rows) → IsGreenBy rows k low high
@@ -42,7 +42,7 @@ module _ (plan : List Phase) (p : IsPlan plan) (intergreen : ℕ → ℕ) (k : �
       let others = lawful-tail plan row (next ∷ rows) lawful in
       let green = lawful-first plan next rows others in
       let begins = lawful-first plan row (next ∷ rows) lawful in
-      let long = green-length plan next p green in
+      let long = green-lasts plan next p green in
       let soon : next.from ≤ row.to + intergreen row.phase = intergreens.next 0 (omega arith) in
       let early : low ≤ next.from = first (omega arith) in
       elim (cases_eq next.phase k) [

@@ -1,8 +1,8 @@
 -- A queue of a phase that is green within some time discharges within that time and the start-up of the green.
-use Rattle.std.proofs.Common.{◌≡◌, ℕ, zero, suc, ◌+◌, ◌-◌, ◌<◌, ◌≤◌, min, Bool, true, false, cond, eqb, ltb, not, ◌&&◌, ◌||◌, List, [], ◌∷◌, length, IfSome, Option, Some, None, refl, sym, ap, subst, ◌∙◌, inl, inr, arith}
+use Rattle.std.proofs.Common.{◌≡◌, ℕ, zero, suc, ◌+◌, ◌-◌, ◌<◌, ◌≤◌, min, Bool, true, false, cond, ltb, not, ◌&&◌, ◌||◌, List, [], ◌∷◌, length, IfSome, Option, Some, None, refl, sym, ap, subst, ◌∙◌, inl, inr, arith}
 use Rattle.std.proofs.lemmas.Bool.{and_from, and_left, cases_lt, cond_both, eq-eqb, le-ltb, lt-ltb, ltb-true}
 use Rattle.std.proofs.lemmas.List.Elements.{All-get_or}
-use Rattle.phase_plan.specs.Phases.{IsPlan, is_unmarked_at, phase_at}
+use Rattle.phase_plan.specs.Phases.{IsRing, is_unmarked_at, phase_at}
 use Rattle.control_flow.specs.Greens.{IsLawful, end_of, row_at}
 use Rattle.control_flow.specs.declared.greens.Green.{Green}
 use Rattle.control_flow.specs.declared.greens.Sign.{Sign}
@@ -156,7 +156,7 @@ module _ (net : Net) (arriving : ℕ → ℕ → ℕ) (seen : ℕ → ℕ → Si
 
 -- the law, for lines
 module _ (net : Net) (network : IsNetwork net) (arriving : ℕ → ℕ → ℕ) (lines : ℕ → List Green) (l node : ℕ) (inside : l < length net.link_names) (ends : (link_at net l).to ≡ Some node) (plain : (link_at net l).walk ≡ None)
-    (p : IsPlan (plan_at net node)) (lawful : IsLawful (plan_at net node) (lines node)) (long : (phase_at (plan_at net node) (link_at net l).phase).loss < (phase_at (plan_at net node) (link_at net l).phase).least) where
+    (p : IsRing (plan_at net node)) (lawful : IsLawful (plan_at net node) (lines node)) (long : (phase_at (plan_at net node) (link_at net l).phase).loss < (phase_at (plan_at net node) (link_at net l).phase).least) where
   abbrev k : ℕ
   k = (link_at net l).phase
 
@@ -202,9 +202,9 @@ waiting-law net network arriving lines intergreen l node now n inside ends plain
     let link : IsLink (length net.node_names) (link_at net l) = All-get_or (IsLink (length net.node_names)) net.links l no_link (let f = network.outline.road_count in omega (arith, f, inside)) network.outline.links in
     let there : node < length net.node_names = subst (λ (o : Option ℕ). IfSome o (λ n. n < length net.node_names)) ends link.to in
     let plan = plan_at net node in
-    let p : IsPlan plan = All-get_or IsPlan net.plans node [] (let e = network.outline.plan_count in omega (arith, e, there)) network.outline.plans in
+    let p : IsRing plan = All-get_or IsRing net.plans node [] (let e = network.outline.plan_count in omega (arith, e, there)) network.outline.plans in
     let k = (link_at net l).phase in
     let below : k < length plan = ((served net network.outline network.joins).entries l node inside ends).0 in
     let most = longest_way plan intergreen k k in
-    let by = within plan p intergreen k below free (lines node) lawful intergreens n begun (omega (arith, room, end)) in
+    let by = within plan p.phases intergreen k below free (lines node) lawful intergreens n begun (omega (arith, room, end)) in
     waits net network arriving lines l node inside ends plain p lawful long n most now by room stands

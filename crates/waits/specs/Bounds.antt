@@ -21,11 +21,13 @@ until_recalled net = option_map (λ recall. recall + net.run.step) net.run.recal
 abbrev pub until_called : Net → ℕ
 until_called net = unwrap_or net.run.act_step net.run.step
 
--- within how many seconds each queue of phase k of a node loses something, where the nodes plan and look so far ahead
+-- within how many seconds each queue of a link of phase k of a node, one without a walk, loses something, where the nodes plan and look
+-- so far ahead
 abbrev pub planned_bounds : Net → ℕ → ℕ → Result ℕ NoBound
 planned_bounds net node k = wait_bound (plan_at net node) (intergreens_of net net.run.look node) (until_recalled net) k
 
--- the same under actuated control, where each intergreen is yellow and all-red alone
+-- within how many seconds each queue of a link of phase k of a node, one without a walk, loses something under actuated control, where
+-- each intergreen is yellow and all-red alone
 abbrev pub actuated_bounds : Net → ℕ → ℕ → Result ℕ NoBound
 actuated_bounds net node k = wait_bound (plan_at net node) (intergreens_of net 0 node) (Some (until_called net)) k
 

@@ -37,10 +37,10 @@ recalled_wait plan intergreen until_recalled k = until_recalled + greatest_inter
 abbrev pub green_bound : List Phase → ℕ → ℕ → Result ℕ NoBound
 green_bound plan k wait = if nat_lt (phase_at plan k).loss (phase_at plan k).least then Ok wait else Err ShortGreen
 
--- Within how many seconds each queue of phase k loses something, where the intergreens are within these. A marked phase, which the ring
--- may leave out, has such a bound only where in each of these cases a round begins, no more than so many seconds after the begin of a
--- queue, from which on the signal stops at the phase: `until_recalled`, if any. A phase whose least green is no longer than its start-up
--- has none.
+-- Within how many seconds each queue of a link of phase k, one without a walk, loses something, where the intergreens are within these.
+-- A marked phase, which the ring may leave out, has such a bound only where in each of these cases a round begins, no more than so many
+-- seconds after the begin of a queue, from which on the signal stops at the phase: `until_recalled`, if any. A phase whose least green
+-- is no longer than its start-up has none.
 abbrev pub wait_bound : List Phase → (ℕ → ℕ) → Option ℕ → ℕ → Result ℕ NoBound
 wait_bound plan intergreen until_recalled k =
     if is_unmarked_at plan k then green_bound plan k (longest_wait plan intergreen k)
@@ -50,8 +50,8 @@ wait_bound plan intergreen until_recalled k =
 abbrev pub intergreens_of : Net → ℕ → ℕ → ℕ → ℕ
 intergreens_of net look node = longest_intergreen (plan_at net node) look
 
--- within how many seconds each queue of phase k of a node loses something, whoever makes the lines, where the intergreens of the nodes
--- are within these
+-- within how many seconds each queue of a link of phase k of a node, one without a walk, loses something, whoever makes the lines, where
+-- the intergreens of the nodes are within these
 abbrev pub wait_bounds : Net → (ℕ → ℕ → ℕ) → ℕ → ℕ → Result ℕ NoBound
 wait_bounds net intergreens node k = wait_bound (plan_at net node) (intergreens node) None k
 

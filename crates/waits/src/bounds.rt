@@ -1,4 +1,4 @@
-//! Within how many seconds each queue of a phase loses something, or why there is no such bound.
+//! Within how many seconds each queue of a phase, of a link without a walk, loses something, or why there is no such bound.
 ghost use Rattle.std.specs.Prelude.{◌≡◌, ◌++◌, ◌+◌, ◌-◌, ◌*◌, ◌<◌, ◌≤◌, nat_lt, if◌then◌else◌, IfOk, IfSome, OnOk, Ok, Err, length, max, sum_by};
 ghost use Rattle.std.specs.List.{range_with_len};
 ghost use Rattle.net_parts.specs.Limits.{most_look};
@@ -111,8 +111,8 @@ fn until_called(net: &Network) -> u32
     run.act_step.unwrap_or(run.step)
 }
 
-/// Within how many seconds each queue of a phase loses something, where the signal stays in all-red at most `look` seconds from the
-/// end of a green, and a marked phase is recalled by a round that begins within `until_recalled` seconds of the begin of a queue, if
+/// Within how many seconds each queue of a phase, of a link without a walk, loses something, where the signal stays in all-red at most
+/// `look` seconds from the end of a green, and a marked phase is recalled by a round that begins within `until_recalled` seconds of the begin of a queue, if
 /// at all; else why there is no such bound.
 ///
 /// docs/RULES.md, "How long a queue can wait".

@@ -6,7 +6,7 @@ ghost use Rattle.control_flow.specs.declared.greens.Green.{Green};
 ghost use Rattle.net_parts.specs.Numbers.{Net};
 ghost use Rattle.net_simulator.specs.Flow.{cumulative_under};
 ghost use Rattle.net_simulator.specs.Worlds.{signs_by};
-ghost use Rattle.phase_plan.specs.Phases.{IsPlan, is_unmarked_at};
+ghost use Rattle.phase_plan.specs.Phases.{IsRing, is_unmarked_at};
 ghost use Rattle.phase_plan.specs.declared.Phase.{Phase};
 ghost use Rattle.road_net.specs.Network.{IsNetwork};
 ghost use Rattle.switch_rules.specs.Sequences.{AreNextServings};
@@ -15,7 +15,7 @@ ghost use Rattle.switch_rules.specs.declared.Cluster.{Cluster};
 ghost use Rattle.switch_rules.specs.declared.Head.{Head};
 ghost use Rattle.switch_rules.specs.declared.Served.{Served};
 ghost use Rattle.waits.specs.Discharges.{AreEmptied, AreWaitsWithin, AreWholeLines, wait_bounds};
-ghost use Rattle.control_flow.specs.Recalls.{recalled};
+ghost use Rattle.control_flow.specs.Recalls.{without_marks};
 ghost use Rattle.waits.specs.Rounds.{AreRounds};
 ghost use Rattle.waits.specs.Waits.{AreIntergreensWithin, BeginSoon, IsGreenBy, IsGreenWithin};
 ghost use Rattle.waits.specs.Waits.{longest_intergreen, longest_red};
@@ -25,7 +25,7 @@ ghost use Rattle.waits.specs.Waits.{longest_intergreen, longest_red};
 ///
 /// docs/RULES.md, "How long a queue can wait".
 pub fn law_of_turns()
-    ensures { (plan : List Phase) → IsPlan plan → (intergreen : ℕ → ℕ) (rows : List Green) → IsLawful plan rows
+    ensures { (plan : List Phase) → IsRing plan → (intergreen : ℕ → ℕ) (rows : List Green) → IsLawful plan rows
         → AreIntergreensWithin intergreen rows → (k : ℕ) → k < length plan → IsTrue (is_unmarked_at plan k)
         → IsGreenWithin rows k (longest_red plan intergreen k) }
 {}
@@ -38,11 +38,11 @@ pub fn law_of_turns()
 pub fn law_of_intergreens()
     ensures turns { (plan : List Phase) (stops : ℕ → Bool) (head : Head) (to until look : ℕ)
         → AreIntergreensWithin (longest_intergreen plan look) (turned plan stops head to until) }
-    ensures serves { (plan : List Phase) → IsPlan plan → (head : Head) → IsHead plan head → head.at ≤ 104000
+    ensures serves { (plan : List Phase) → IsRing plan → (head : Head) → IsHead plan head → head.at ≤ 104000
         → (ks : List ℕ) (ss : List Served) → AreServings plan head ks ss
         → (by look until : ℕ) → by ≤ head.at + look → BeginSoon plan by head ks ss
         → AreIntergreensWithin (longest_intergreen plan look) (line_of plan head ks ss until) }
-    ensures splices { (plan : List Phase) → IsPlan plan → (intergreen : ℕ → ℕ) (old next : List Green) (now : ℕ)
+    ensures splices { (plan : List Phase) → IsRing plan → (intergreen : ℕ → ℕ) (old next : List Green) (now : ℕ)
         → (head : Head) → IsLawful plan old → head_at plan old now ≡ Some head → GoesOn head next
         → AreIntergreensWithin intergreen old → AreIntergreensWithin intergreen next
         → AreIntergreensWithin intergreen (spliced old next) }
@@ -62,31 +62,31 @@ pub fn law_of_servings()
 ///
 /// docs/RULES.md, "How long a queue can wait".
 pub fn law_of_rounds()
-    ensures rounds { (plan : List Phase) → IsPlan plan → (intergreen : ℕ → ℕ) (rounds : ℕ) (begins : ℕ → ℕ)
+    ensures rounds { (plan : List Phase) → IsRing plan → (intergreen : ℕ → ℕ) (rounds : ℕ) (begins : ℕ → ℕ)
         → (line : ℕ → List Green) → AreRounds plan intergreen rounds begins line
         → (r : ℕ) → r ≤ rounds → IsLawful plan (line r) × AreIntergreensWithin intergreen (line r) }
-    ensures marks { (plan : List Phase) (is_recalled : ℕ → Bool) (rows : List Green)
-        → IsLawful (recalled plan is_recalled) rows → IsLawful plan rows }
+    ensures marks { (plan : List Phase) (these : ℕ → Bool) (rows : List Green)
+        → IsLawful (without_marks plan these) rows → IsLawful plan rows }
 {}
 
-/// Where from a round on a phase is recalled, so that what each round splices in is lawful without its mark, the phase is green
-/// within its longest red of the head's green of that round, and of each later second.
+/// Where from a round on a phase has no mark, so that what each round splices in is lawful without it, the phase is green within
+/// its longest red of the head's green of that round, and of each later second. So it is where it is recalled.
 ///
 /// docs/RULES.md, "How long a queue can wait".
 pub fn law_of_recalls()
-    ensures { (plan : List Phase) (is_recalled : ℕ → Bool) → IsPlan plan → (intergreen : ℕ → ℕ) (rounds : ℕ)
+    ensures { (plan : List Phase) (these : ℕ → Bool) → IsRing plan → (intergreen : ℕ → ℕ) (rounds : ℕ)
         → (begins : ℕ → ℕ) (line : ℕ → List Green) → (are : AreRounds plan intergreen rounds begins line)
         → ((r s : ℕ) → r ≤ s → begins r ≤ begins s) → (first : ℕ) (less : first < rounds)
-        → ((r : ℕ) (inside : r < rounds) → first ≤ r → IsLawful (recalled plan is_recalled) (are.each r inside).next)
-        → (k : ℕ) → k < length (recalled plan is_recalled) → IsTrue (is_unmarked_at (recalled plan is_recalled) k)
+        → ((r : ℕ) (inside : r < rounds) → first ≤ r → IsLawful (without_marks plan these) (are.each r inside).next)
+        → (k : ℕ) → k < length (without_marks plan these) → IsTrue (is_unmarked_at (without_marks plan these) k)
         → (second : ℕ) → (row_at (are.each first less).next 0).from ≤ second
-        → second + longest_red (recalled plan is_recalled) intergreen k < end_of (line rounds)
-        → IsGreenBy (line rounds) k second (second + longest_red (recalled plan is_recalled) intergreen k) }
+        → second + longest_red (without_marks plan these) intergreen k < end_of (line rounds)
+        → IsGreenBy (line rounds) k second (second + longest_red (without_marks plan these) intergreen k) }
 {}
 
-/// Under lawful timelines with intergreens within bounds, one for each node, whoever made them, no queue waits for ever: each queue
-/// of an unmarked phase whose least green is longer than its start-up loses something within the longest wait, and what stands at
-/// a second leaves green by green.
+/// Under lawful timelines with intergreens within bounds, one for each node, whoever made them, no queue of a link without a walk
+/// waits for ever: where the phase is unmarked, and its least green is longer than its start-up, it loses something within the
+/// longest wait, and what stands at a second leaves green by green.
 ///
 /// docs/RULES.md, "How long a queue can wait".
 pub fn law_of_waits()

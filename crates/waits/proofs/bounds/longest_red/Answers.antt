@@ -15,4 +15,4 @@ returns-clause-value c =
 pub returns-clause-bounds : goal.returns-clause-bounds
 returns-clause-bounds c =
     (let p = c.phase.ensures.bounds in
-    omega (arith, p.yellow, p.clear, c.requires.look, c.longest_intergreen.ensures.value, c.longest_spans-after.ensures.bounds, c.longest_spans-before.ensures.bounds, c.count-count.ensures.count, c.count-count.ensures.plan.count, c.requires.phase))
+    omega (arith, p.yellow, p.clear, c.requires.look, c.longest_intergreen.ensures.value, c.longest_spans-after.ensures.bounds, c.longest_spans-before.ensures.bounds, c.count-count.ensures.count, c.count-count.ensures.ring.count, c.requires.phase))

@@ -8,4 +8,4 @@ pub returns-clause-serves : goal.returns-clause-serves
 returns-clause-serves c = λ plan p head h reach ks ss servings by look until near soon. line-intergreens plan look p ks ss head by until h reach servings near soon
 
 pub returns-clause-splices : goal.returns-clause-splices
-returns-clause-splices c = λ plan p intergreen old next now head lawful at goes before intergreens. spliced-intergreens plan p intergreen old next now head lawful at goes before intergreens
+returns-clause-splices c = λ plan p intergreen old next now head lawful at goes before intergreens. spliced-intergreens plan p.phases intergreen old next now head lawful at goes before intergreens

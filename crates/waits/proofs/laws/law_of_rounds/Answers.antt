@@ -1,4 +1,4 @@
-use Rattle.control_flow.proofs.RecallLaws.{lawful-still}
+use Rattle.control_flow.proofs.RecallLaws.{lawful-without}
 use Rattle.waits.proofs.Rounds.{kept}
 use Rattle.waits.proofs.laws.law_of_rounds.Goals as goal
 
@@ -6,4 +6,4 @@ pub returns-clause-rounds : goal.returns-clause-rounds
 returns-clause-rounds c = kept
 
 pub returns-clause-marks : goal.returns-clause-marks
-returns-clause-marks c = lawful-still
+returns-clause-marks c = lawful-without
