@@ -96,19 +96,20 @@ fn part_to(amount: u32, shares: u32) -> u32
     (u64::from(amount) * u64::from(shares) / 1000) as u32
 }
 
-/// What link `l` discharges enters the links into which it turns. Tells how much leaves the network.
-fn turn(recent: &mut [u32], net: &Network, l: u32, amount: u32, second: u32) -> u32
+/// What link `l` discharges enters the links into which it turns. Tells how much has left the network, where `out` had before.
+fn turn(recent: &mut [u32], net: &Network, l: u32, amount: u32, second: u32, out: u64) -> u64
     requires link { l < length net.now.link_names }
     requires recent { length recent.old ≡ length net.now.link_names * kept_seconds }
+    requires out { out + amount < 2 ^ 64 }
     requires fits { (k : ℕ) → k < length net.now.link_names
         → cell recent.old k second + split_of (turns_at net.now l) amount k < 2 ^ 32 }
     ensures here { (k : ℕ) → k < length net.now.link_names
         → cell recent.new k second ≡ cell recent.old k second + split_of (turns_at net.now l) amount k }
     ensures others { (k y : ℕ) → y % kept_seconds ≢ second % kept_seconds → cell recent.new k y ≡ cell recent.old k y }
-    ensures out { result ≡ sums.outward (link_at net.now l).to amount }
+    ensures out { result ≡ out + sums.outward (link_at net.now l).to amount }
 {
     if amount == 0 {
-        return 0;
+        return out;
     }
     let mut shares = 0;
     let mut given = 0;
@@ -120,7 +121,7 @@ fn turn(recent: &mut [u32], net: &Network, l: u32, amount: u32, second: u32) -> 
         rows::put(recent, turn.exit, second, entered + part);
         given = all;
     }
-    outward(net.link(l).to, amount)
+    out + u64::from(outward(net.link(l).to, amount))
 }
 
 /// Each link discharges what it may of what waits at its end, and that enters the links into which it turns; `ready` has what waits at the end of
@@ -156,7 +157,7 @@ pub(crate) fn discharge(
     for l in 0..net.links() {
         let amount = goes(net, waits, shown, ready, second, l);
         leaving[l as usize] = amount;
-        out += u64::from(turn(recent, net, l, amount, second));
+        out = turn(recent, net, l, amount, second, out);
     }
     out
 }

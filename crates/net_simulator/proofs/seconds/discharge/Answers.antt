@@ -7,8 +7,8 @@ use Rattle.net_simulator.specs.Steps.{goes_at}
 use Rattle.net_simulator.specs.Sums.{outward}
 use Rattle.net_simulator.proofs.seconds.discharge.Goals as goal
 
-pub turn-requires-clause-fits : goal.turn-requires-clause-fits
-turn-requires-clause-fits c k h =
+pub turn-out-requires-clause-fits : goal.turn-out-requires-clause-fits
+turn-out-requires-clause-fits c k h =
     let more = total-more (λ m. split_of (turns_at c.args.net.now m) (goes_at c.args.net.now c.args.shown.now.signs.now c.args.shown.now.since.now c.args.waits.now c.args.ready.now c.args.second m) k) (length c.args.net.now.link_names) c.loop-l.l (omega arith) in
     let same = ap (λ a. split_of (turns_at c.args.net.now c.loop-l.l) a k) c.goes-amount.ensures.value in
     omega (arith, more, same, c.loop-l.invariant.here k h, c.requires.fits k h)
