@@ -1,6 +1,5 @@
 -- The table of a link, in which seven keys may be absent.
-use Rattle.std.proofs.Common.{◌≡◌, ℕ, ◌<◌, ◌≤◌, ◌^◌, codes, pos, List, Option, Some, None, IfSome, option_map, inl, inr, refl, sym, ap, subst, arith}
-use Rattle.foundation.specs.Options.{each}
+use Rattle.std.proofs.Common.{◌≡◌, ℕ, ◌<◌, ◌≤◌, ◌^◌, codes, pos, List, Option, Some, None, IfSome, option_map, inl, inr, refl, sym, subst, arith}
 use Rattle.toml.specs.Data.{Data, Items, no_items, Members, no_members, integer, string, array, table, depth, items_depth}
 use Rattle.net_parts.specs.declared.drafts.DraftLink.{DraftLink}
 use Rattle.net_parts.specs.declared.drafts.DraftYield.{DraftYield}

@@ -1,16 +1,16 @@
 -- With numbers for its names, the draft of a network is that network.
-use Rattle.std.proofs.Common.{◌≡◌, ℕ, ◌<◌, ◌≤◌, List, [], ◌∷◌, length, get_or, map, All, Option, Some, None, IfSome, option_map, zero-add, refl, sym, ap, ◌∙◌, subst, arith}
+use Rattle.std.proofs.Common.{◌≡◌, ◌≢◌, ℕ, zero, suc, ◌<◌, ◌≤◌, ◌==◌, ◌⊎◌, inl, inr, Bool, true, false, true≢false, count_by, List, [], ◌∷◌, length, get_or, map, All, Option, Some, None, IfSome, option_map, zero-add, refl, sym, ap, ◌∙◌, subst, arith}
 use Rattle.std.proofs.lemmas.List.{length-map}
 use Rattle.std.proofs.lemmas.List.FromFn.{length-map-range_with_len}
 use Rattle.std.proofs.lemmas.List.Elements.{All-map}
 use Rattle.foundation.specs.Options.{each}
-use Rattle.phase_plan.specs.Phases.{IsPlan, is_unmarked, no_phase}
+use Rattle.phase_plan.specs.Phases.{IsRing, is_free, is_unmarked, no_phase}
 use Rattle.net_parts.specs.declared.drafts.Draft.{Draft}
 use Rattle.net_parts.specs.declared.drafts.DraftNode.{DraftNode}
 use Rattle.net_parts.specs.declared.drafts.DraftPhase.{DraftPhase}
 use Rattle.net_parts.specs.declared.drafts.DraftLink.{DraftLink}
 use Rattle.net_parts.specs.declared.roads.Turn.{Turn}
-use Rattle.net_parts.specs.Bounds.{IsBounded, IsBoundedNode, IsBoundedPhase, IsBoundedLink, IsBoundedTurn, HasYieldBounds}
+use Rattle.net_parts.specs.Bounds.{IsBounded, IsBoundedNode, IsBoundedPhase, IsBoundedLink, IsBoundedTurn, IsUnmarkedCount, HasYieldBounds}
 use Rattle.net_parts.specs.Numbers.{Net, AreDistinct, no_link, number_of, number_if, yield_names, yield_sat, plan_of, phases_of, also_of, link_of, turn_of, turns_of, yields_of, conflict_of, roads_of, node_names, link_names, numbered}
 use Rattle.net_parts.specs.Outline.{IsOutline, IsLink, AreTurns, ArePhaseLinks, IsYieldSat, also_at, link_at, turns_at, yields_at, plan_at, phases_at}
 use Rattle.net_parts.specs.Parts.{IsNetOf}
@@ -55,7 +55,13 @@ given-bounded : (names : List (List ℕ)) (ns : List ℕ) (sat most : ℕ) → I
 given-bounded names [] sat most is few short = tt
 given-bounded names (n ∷ ns) sat most is few short = record { count = (omega arith, omega (arith, length-map ns (name_in names), short)); sat = (is, few) }
 
-module _ (net : Net) (ok : IsOutline net) where
+-- how many phases of a ring are unmarked, where the file says version 3, or else where the ring is not free
+count-of_ring : (third : Bool) (count : ℕ) → count ≢ 1 → (third ≡ true) ⊎ ((count == 0) ≡ false) → IsUnmarkedCount third count
+count-of_ring third zero not_one may = inr (elim may [ inl is ↦ is | inr filled ↦ absurd (true≢false filled) ], refl)
+count-of_ring third (suc zero) not_one may = absurd (not_one refl)
+count-of_ring third (suc (suc n)) not_one may = inl (omega arith)
+
+module _ (net : Net) (ok : IsOutline net) (third : Bool) (rings : (third ≡ true) ⊎ All (λ plan. is_free plan ≡ false) net.plans) where
   -- the links of the phases of a node
   lists-numbers : (n : ℕ) → n < length net.node_names → All (ArePhaseLinks (length net.link_names)) (phases_at net n)
   lists-numbers n h = let inside : n < length net.phase_links = omega (arith, ok.phases_count) in ok.phase_links n [] inside
@@ -73,23 +79,27 @@ module _ (net : Net) (ok : IsOutline net) where
       let inside : k < length (also_at net n) = omega (arith, ok.also_counts n h) in
       numbers-own net.link_names ok.links_differ (get_or (also_at net n) k []) (also-numbers n h k [] inside).exist
 
-  phases-own : (n : ℕ) → n < length net.node_names → phases_of net.link_names (node_by_names net n) ≡ Some (phases_at net n)
+  phases-own : (n : ℕ) → n < length net.node_names → phases_of net.link_names (node_by_names net third n) ≡ Some (phases_at net n)
   unfolding node_by_names
   phases-own n h = each-range (λ (p : DraftPhase). each (number_of net.link_names) p.links) (phase_by_names net.link_names (plan_at net n) (phases_at net n) (also_at net n)) 0 (length (plan_at net n)) (phases_at net n) [] (ok.phase_counts n h) (λ k below. rw zero-add (phase-own n k h below))
 
   -- the times of its phases
-  plan-own : (n : ℕ) → plan_of (node_by_names net n) ≡ plan_at net n
+  plan-own : (n : ℕ) → plan_of (node_by_names net third n) ≡ plan_at net n
   unfolding node_by_names
   plan-own n = map-range (λ (p : DraftPhase). p.phase) (phase_by_names net.link_names (plan_at net n) (phases_at net n) (also_at net n)) (length (plan_at net n)) (plan_at net n) no_phase refl (λ k below. refl)
 
   -- the further links of its phases
-  also-own : (n : ℕ) → n < length net.node_names → also_of net.link_names (node_by_names net n) ≡ Some (also_at net n)
+  also-own : (n : ℕ) → n < length net.node_names → also_of net.link_names (node_by_names net third n) ≡ Some (also_at net n)
   unfolding node_by_names
   also-own n h = each-range (λ (p : DraftPhase). each (number_of net.link_names) p.also) (phase_by_names net.link_names (plan_at net n) (phases_at net n) (also_at net n)) 0 (length (plan_at net n)) (also_at net n) [] (ok.also_counts n h) (λ k below. rw zero-add (further-own n k h below))
 
-  node-name : (n : ℕ) → (node_by_names net n).name ≡ name_in net.node_names n
+  node-name : (n : ℕ) → (node_by_names net third n).name ≡ name_in net.node_names n
   unfolding node_by_names
   node-name n = refl
+
+  node-free : (n : ℕ) → (node_by_names net third n).free_ring ≡ third
+  unfolding node_by_names
+  node-free n = refl
 
   -- a link and its turns
   road : (l : ℕ) → l < length net.link_names → IsLink (length net.node_names) (link_at net l)
@@ -122,50 +132,50 @@ module _ (net : Net) (ok : IsOutline net) where
   yields-own l h = ap (each (number_of net.link_names)) (yields-named net.link_names (yields_at net l) (link_at net l).yield_sat) ∙ numbers-own net.link_names ok.links_differ (yields_at net l) (giving l h).exist
 
   -- the names of the draft
-  node_names-own : node_names (draft_by_names net) ≡ net.node_names
+  node_names-own : node_names (draft_by_names net third) ≡ net.node_names
   unfolding draft_by_names
-  node_names-own = map-range (λ (n : DraftNode). n.name) (node_by_names net) (length net.node_names) net.node_names [] refl (λ k h. node-name k)
+  node_names-own = map-range (λ (n : DraftNode). n.name) (node_by_names net third) (length net.node_names) net.node_names [] refl (λ k h. node-name k)
 
-  link_names-own : link_names (draft_by_names net) ≡ net.link_names
+  link_names-own : link_names (draft_by_names net third) ≡ net.link_names
   unfolding draft_by_names
   link_names-own = map-range (λ (l : DraftLink). l.name) (link_by_names net) (length net.link_names) net.link_names [] refl (λ k h. link-name k)
 
   -- its parts by number
-  lists-own : each (phases_of net.link_names) (draft_by_names net).nodes ≡ Some net.phase_links
+  lists-own : each (phases_of net.link_names) (draft_by_names net third).nodes ≡ Some net.phase_links
   unfolding draft_by_names
-  lists-own = each-range (phases_of net.link_names) (node_by_names net) 0 (length net.node_names) net.phase_links [] ok.phases_count (λ k h. rw zero-add (phases-own k h))
+  lists-own = each-range (phases_of net.link_names) (node_by_names net third) 0 (length net.node_names) net.phase_links [] ok.phases_count (λ k h. rw zero-add (phases-own k h))
 
-  plans-own : map plan_of (draft_by_names net).nodes ≡ net.plans
+  plans-own : map plan_of (draft_by_names net third).nodes ≡ net.plans
   unfolding draft_by_names
-  plans-own = map-range plan_of (node_by_names net) (length net.node_names) net.plans [] ok.plan_count (λ k h. plan-own k)
+  plans-own = map-range plan_of (node_by_names net third) (length net.node_names) net.plans [] ok.plan_count (λ k h. plan-own k)
 
-  all_also-own : each (also_of net.link_names) (draft_by_names net).nodes ≡ Some net.also_links
+  all_also-own : each (also_of net.link_names) (draft_by_names net third).nodes ≡ Some net.also_links
   unfolding draft_by_names
-  all_also-own = each-range (also_of net.link_names) (node_by_names net) 0 (length net.node_names) net.also_links [] ok.also_count (λ k h. rw zero-add (also-own k h))
+  all_also-own = each-range (also_of net.link_names) (node_by_names net third) 0 (length net.node_names) net.also_links [] ok.also_count (λ k h. rw zero-add (also-own k h))
 
-  links-own : each (link_of net.node_names net.link_names net.phase_links) (draft_by_names net).links ≡ Some net.links
+  links-own : each (link_of net.node_names net.link_names net.phase_links) (draft_by_names net third).links ≡ Some net.links
   unfolding draft_by_names
   links-own = each-range (link_of net.node_names net.link_names net.phase_links) (link_by_names net) 0 (length net.link_names) net.links no_link ok.road_count (λ k h. rw zero-add (link-own k h))
 
-  all_turns-own : each (turns_of net.link_names) (draft_by_names net).links ≡ Some net.turns
+  all_turns-own : each (turns_of net.link_names) (draft_by_names net third).links ≡ Some net.turns
   unfolding draft_by_names
   all_turns-own = each-range (turns_of net.link_names) (link_by_names net) 0 (length net.link_names) net.turns [] ok.turn_count (λ k h. rw zero-add (turns-own k h))
 
-  all_yields-own : each (yields_of net.link_names) (draft_by_names net).links ≡ Some net.yields
+  all_yields-own : each (yields_of net.link_names) (draft_by_names net third).links ≡ Some net.yields
   unfolding draft_by_names
   all_yields-own = each-range (yields_of net.link_names) (link_by_names net) 0 (length net.link_names) net.yields [] ok.yield_count (λ k h. rw zero-add (yields-own k h))
 
-  conflicts-own : each (conflict_of net.link_names) (draft_by_names net).conflicts ≡ Some net.conflicts
+  conflicts-own : each (conflict_of net.link_names) (draft_by_names net third).conflicts ≡ Some net.conflicts
   unfolding draft_by_names
   conflicts-own = each-own (λ c. (c.0 < length net.link_names) × (c.1 < length net.link_names)) (conflict_of net.link_names) (conflict_by_names net.link_names) (conflict-own net.link_names ok.links_differ) net.conflicts ok.conflicts
 
-  run-own : (draft_by_names net).run ≡ net.run
+  run-own : (draft_by_names net third).run ≡ net.run
   unfolding draft_by_names
   run-own = refl
 
-  parts-own : IsNumbered (draft_by_names net) net
+  parts-own : IsNumbered (draft_by_names net third) net
   parts-own =
-      let d = draft_by_names net in
+      let d = draft_by_names net third in
       let links : net.link_names ≡ link_names d = sym link_names-own in
       let nodes : net.node_names ≡ node_names d = sym node_names-own in
       record {
@@ -182,8 +192,14 @@ module _ (net : Net) (ok : IsOutline net) where
       }
 
   -- it is within the bounds of drafts
-  plan-ok : (n : ℕ) → n < length net.node_names → IsPlan (plan_at net n)
+  plan-ok : (n : ℕ) → n < length net.node_names → IsRing (plan_at net n)
   plan-ok n h = let inside : n < length net.plans = omega (arith, ok.plan_count) in ok.plans n [] inside
+
+  -- its ring is free in version 3 alone
+  plan-free : (n : ℕ) → n < length net.node_names → (third ≡ true) ⊎ (is_free (plan_at net n) ≡ false)
+  plan-free n h =
+      let inside : n < length net.plans = omega (arith, ok.plan_count) in
+      elim rings [ inl is ↦ inl is | inr none ↦ inr (none n [] inside) ]
 
   phase-bounded : (n k : ℕ) → n < length net.node_names → k < length (plan_at net n) → IsBoundedPhase (phase_by_names net.link_names (plan_at net n) (phases_at net n) (also_at net n) k)
   phase-bounded n k h below =
@@ -194,22 +210,22 @@ module _ (net : Net) (ok : IsOutline net) where
         also = let named : k < length (also_at net n) = omega (arith, ok.also_counts n h) in rw length-map (also-numbers n h k [] named).count;
       }
 
-  phases-count : (n : ℕ) → length (node_by_names net n).phases ≡ length (plan_at net n)
+  phases-count : (n : ℕ) → length (node_by_names net third n).phases ≡ length (plan_at net n)
   unfolding node_by_names
   phases-count n = length-map-range_with_len (phase_by_names net.link_names (plan_at net n) (phases_at net n) (also_at net n)) 0 (length (plan_at net n))
 
-  phases-bounded : (n : ℕ) → n < length net.node_names → All IsBoundedPhase (node_by_names net n).phases
+  phases-bounded : (n : ℕ) → n < length net.node_names → All IsBoundedPhase (node_by_names net third n).phases
   unfolding node_by_names
   phases-bounded n h = All-range IsBoundedPhase (phase_by_names net.link_names (plan_at net n) (phases_at net n) (also_at net n)) (length (plan_at net n)) (λ k below. phase-bounded n k h below)
 
-  node-bounded : (n : ℕ) → n < length net.node_names → IsBoundedNode (node_by_names net n)
+  node-bounded : (n : ℕ) → n < length net.node_names → IsBoundedNode (node_by_names net third n)
   node-bounded n h =
       let plan = plan-ok n h in
       record {
         own = record {
           name = rw (node-name n) (ok.node_names n [] h);
           count = rw (phases-count n) plan.count;
-          ring = rw (← count_by-map is_unmarked (λ (p : DraftPhase). p.phase) (node_by_names net n).phases, plan-own n) plan.ring;
+          ring = rw (node-free n, ← count_by-map is_unmarked (λ (p : DraftPhase). p.phase) (node_by_names net third n).phases, plan-own n) (count-of_ring third (count_by is_unmarked (plan_at net n)) plan.ring (plan-free n h));
         };
         phases = phases-bounded n h;
       }
@@ -221,26 +237,26 @@ module _ (net : Net) (ok : IsOutline net) where
     turns = All-map IsBoundedTurn (turn_by_names net.link_names) (turns_at net l) (turning l h).shares;
   }
 
-  bounded : IsBounded (draft_by_names net)
+  bounded : IsBounded (draft_by_names net third)
   unfolding draft_by_names
   bounded = record {
     counts = record {
-      nodes = rw (length-map-range_with_len (node_by_names net) 0 (length net.node_names)) ok.node_count;
+      nodes = rw (length-map-range_with_len (node_by_names net third) 0 (length net.node_names)) ok.node_count;
       links = rw (length-map-range_with_len (link_by_names net) 0 (length net.link_names)) ok.link_count;
       conflicts = rw length-map ok.conflict_count;
     };
     run = ok.run;
-    nodes = All-range IsBoundedNode (node_by_names net) (length net.node_names) node-bounded;
+    nodes = All-range IsBoundedNode (node_by_names net third) (length net.node_names) node-bounded;
     links = All-range IsBoundedLink (link_by_names net) (length net.link_names) link-bounded;
   }
 
   -- The draft is within its bounds, and the network is the draft with numbers for names.
-  pub named : IsBounded (draft_by_names net) × IsNetOf (draft_by_names net) net
+  pub named : IsBounded (draft_by_names net third) × IsNetOf (draft_by_names net third) net
   named = (
     bounded,
     record {
       node_names = rw node_names-own ok.nodes_differ;
       link_names = rw link_names-own ok.links_differ;
-      numbers = numbered-from (draft_by_names net) net parts-own;
+      numbers = numbered-from (draft_by_names net third) net parts-own;
     },
   )

@@ -14,7 +14,7 @@ unfolding node_of node_form only text_at list_at
 node-filled node {m2 = m2} name phases empty =
     let is : m2 ≡ member (codes "name") (string node.name) (member (codes "phase") (array phases.items) no_members) = rw (phases.is, name, empty) refl in
     subst (λ ms. IsDataOf (λ version. node_of (Some version)) SaysNode 4 (table ms) node) (sym is) (record {
-      read = λ version says. rw (phases.are.read version says) refl;
+      read = λ version says. rw (phases.are.read version says.phases) (λ i. Some (record { name = node.name; phases = node.phases; free_ring = sym says.free_ring i }));
       depth = let most : items_depth phases.items ≤ 2 = phases.are.depth in omega arith;
     })
 

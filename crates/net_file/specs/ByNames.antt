@@ -1,5 +1,5 @@
 -- The draft of a network by numbers. No public clause names these definitions.
-use Rattle.std.specs.Prelude.{ℕ, ◌<◌, List, [], ◌∷◌, Option, Some, None, length, map, option_map, slice_index_or, All}
+use Rattle.std.specs.Prelude.{ℕ, ◌<◌, Bool, List, [], ◌∷◌, Option, Some, None, length, map, option_map, slice_index_or, All}
 use Rattle.std.specs.List.{range_with_len}
 use Rattle.phase_plan.specs.declared.Phase.{Phase}
 use Rattle.phase_plan.specs.Phases.{phase_at}
@@ -26,9 +26,9 @@ AreNumbers names numbers = All (λ number. number < length names) numbers
 abbrev pub phase_by_names : List (List ℕ) → List Phase → List (List ℕ) → List (List ℕ) → ℕ → DraftPhase
 phase_by_names names plan lists also k = record { phase = phase_at plan k; links = map (name_in names) (slice_index_or lists k []); also = map (name_in names) (slice_index_or also k []) }
 
--- the node with this number
-unfoldable pub node_by_names : Net → ℕ → DraftNode
-node_by_names net n = record { name = name_in net.node_names n; phases = map (phase_by_names net.link_names (plan_at net n) (phases_at net n) (also_at net n)) (range_with_len 0 (length (plan_at net n))) }
+-- the node with this number, in a file of version 3 or of another one
+unfoldable pub node_by_names : Net → Bool → ℕ → DraftNode
+node_by_names net third n = record { name = name_in net.node_names n; free_ring = third; phases = map (phase_by_names net.link_names (plan_at net n) (phases_at net n) (also_at net n)) (range_with_len 0 (length (plan_at net n))) }
 
 -- a turn
 abbrev pub turn_by_names : List (List ℕ) → Turn → DraftTurn
@@ -57,11 +57,11 @@ link_by_names net l = record {
 abbrev pub conflict_by_names : List (List ℕ) → ℕ × ℕ → DraftConflict
 conflict_by_names names pair = record { a = name_in names pair.0; b = name_in names pair.1 }
 
--- the draft with the names of the network for its numbers
-unfoldable pub draft_by_names : Net → Draft
-draft_by_names net = record {
+-- the draft with the names of the network for its numbers, in such a file
+unfoldable pub draft_by_names : Net → Bool → Draft
+draft_by_names net third = record {
   run = net.run;
-  nodes = map (node_by_names net) (range_with_len 0 (length net.node_names));
+  nodes = map (node_by_names net third) (range_with_len 0 (length net.node_names));
   links = map (link_by_names net) (range_with_len 0 (length net.link_names));
   conflicts = map (conflict_by_names net.link_names) net.conflicts;
 }

@@ -1,15 +1,17 @@
 -- What is written of a network.
-use Rattle.std.specs.Prelude.{◌≡◌, ℕ, ◌⊎◌, codes, pos, List, [], Some, None, All}
+use Rattle.std.specs.Prelude.{◌≡◌, ℕ, ◌⊎◌, false, codes, pos, List, [], Some, None, All}
 use Rattle.toml.specs.Data.{Members, integer, get_member}
 use Rattle.toml.specs.Parse.{parse_document}
+use Rattle.phase_plan.specs.Phases.{is_free}
 use Rattle.net_parts.specs.Numbers.{Net}
 use Rattle.net_file.specs.NetworkText.{IsNetworkText}
 
--- what version 2 can say: no phase names a further link, and no link gives way to another one or has a walk
+-- what version 2 can say: no phase names a further link, no link gives way to another one or has a walk, and no ring is free
 pub record IsPlain (net : Net) : Type 0 where
   pub also : All (λ phases. All (λ links. links ≡ []) phases) net.also_links
   pub yields : All (λ links. links ≡ []) net.yields
   pub walks : All (λ l. l.walk ≡ None) net.links
+  pub rings : All (λ plan. is_free plan ≡ false) net.plans
 
 -- the least version that can say a network: 2, or else 3
 abbrev pub IsVersionOf : Net → ℕ → Type 0

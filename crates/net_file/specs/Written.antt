@@ -1,5 +1,5 @@
 -- What is written of a draft.
-use Rattle.std.specs.Prelude.{◌≡◌, ℕ, ◌^◌, ◌<◌, ◌≤◌, ◌⊎◌, Bool, true, false, codes, pos, List, [], All, Option, Some, None, option_map, IfSome, IsUtf8}
+use Rattle.std.specs.Prelude.{◌≡◌, ℕ, ◌^◌, ◌<◌, ◌≤◌, ◌==◌, ◌⊎◌, Bool, true, false, codes, pos, List, [], All, Option, Some, None, option_map, IfSome, IsUtf8}
 use Rattle.toml.specs.Data.{Data, Items, no_items, Members, no_members, integer, boolean, string, array, table, as_table, depth, items_depth, members_depth, get_member, as_str}
 use Rattle.toml.specs.Parse.{parse_document}
 use Rattle.foundation.specs.Options.{◌>>=◌, each}
@@ -17,9 +17,10 @@ use Rattle.net_file.specs.Members.{with_member, with_optional}
 abbrev pub SaysPhase : ℕ → DraftPhase → Type 0
 SaysPhase version p = (version ≡ 3) ⊎ ((version ≡ 2) × (p.also ≡ []))
 
--- a node can, with each of its phases
-abbrev pub SaysNode : ℕ → DraftNode → Type 0
-SaysNode version n = All (SaysPhase version) n.phases
+-- a node can, with each of its phases: its ring may be free in version 3 and in no other
+pub record SaysNode (version : ℕ) (n : DraftNode) : Type 0 where
+  pub phases : All (SaysPhase version) n.phases
+  pub free_ring : n.free_ring ≡ (version == 3)
 
 -- a link can: in version 3, and in version 2 where it gives way to none and has no walk
 abbrev pub SaysLink : ℕ → DraftLink → Type 0

@@ -16,13 +16,14 @@ use net_parts::{
 use phase_plan::Phase;
 use std::alloc::{AllocError, Global};
 
-/// The draft that has the names of the network for its numbers, and every mark and weight. `Err`: out of memory.
+/// The draft that has the names of the network for its numbers, and every mark and weight, in a file of version 3 or of another
+/// one. `Err`: out of memory.
 #[tactic(auto, unfolding(crate::specs::ByNames::draft_by_names))]
-pub(crate) fn draft_by_names(alloc: Global, parts: &Parts) -> Result<Draft, AllocError>
+pub(crate) fn draft_by_names(alloc: Global, parts: &Parts, third: bool) -> Result<Draft, AllocError>
     requires { IsOutline (net_of parts.now) }
-    ensures { IfOk result (λ draft. draft ≡ spec.draft_by_names (net_of parts.now)) }
+    ensures { IfOk result (λ draft. draft ≡ spec.draft_by_names (net_of parts.now) third) }
 {
-    let nodes = nodes_by_names(alloc, parts)?;
+    let nodes = nodes_by_names(alloc, parts, third)?;
     let links = links_by_names(alloc, parts)?;
     let conflicts = conflicts_by_names(alloc, &parts.link_names, parts.conflicts.as_slice())?;
     Ok(Draft {
@@ -34,24 +35,24 @@ pub(crate) fn draft_by_names(alloc: Global, parts: &Parts) -> Result<Draft, Allo
 }
 
 /// The nodes, in order.
-fn nodes_by_names(alloc: Global, parts: &Parts) -> Result<Vec<DraftNode>, AllocError>
+fn nodes_by_names(alloc: Global, parts: &Parts, third: bool) -> Result<Vec<DraftNode>, AllocError>
     requires { IsOutline (net_of parts.now) }
     ensures { IfOk result (λ nodes. nodes.items
-        ≡ map (spec.node_by_names (net_of parts.now)) (range_with_len 0 (length parts.now.node_names))) }
+        ≡ map (spec.node_by_names (net_of parts.now) third) (range_with_len 0 (length parts.now.node_names))) }
 {
     let mut nodes = Vec::new(alloc);
     for n in 0..parts.node_names.len() {
-        nodes.push(node_by_names(alloc, parts, n)?)?;
+        nodes.push(node_by_names(alloc, parts, third, n)?)?;
     }
     Ok(nodes)
 }
 
 /// A node.
 #[tactic(auto, unfolding(crate::specs::ByNames::node_by_names))]
-fn node_by_names(alloc: Global, parts: &Parts, n: u32) -> Result<DraftNode, AllocError>
+fn node_by_names(alloc: Global, parts: &Parts, third: bool, n: u32) -> Result<DraftNode, AllocError>
     requires outline { IsOutline (net_of parts.now) }
     requires node { n < length parts.now.node_names }
-    ensures { IfOk result (λ node. node ≡ spec.node_by_names (net_of parts.now) n) }
+    ensures { IfOk result (λ node. node ≡ spec.node_by_names (net_of parts.now) third n) }
 {
     let plan = parts.plans[n as usize].phases();
     let lists = parts.phase_links[n as usize].as_slice();
@@ -61,6 +62,7 @@ fn node_by_names(alloc: Global, parts: &Parts, n: u32) -> Result<DraftNode, Allo
     Ok(DraftNode {
         name,
         phases: Items::from_vec(phases),
+        free_ring: third,
     })
 }
 

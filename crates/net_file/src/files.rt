@@ -60,8 +60,8 @@ fn parse_draft(alloc: Global, bytes: &[u8]) -> Result<Draft, NetFault>
     Ok(draft)
 }
 
-/// The network file of a network, of the least version that can say it: 2, or 3 where a phase names a further link or a link gives way or
-/// has a walk. It has every mark and weight, and of what else may be absent `split` where it is true, `age`, `hold`, `recall`,
+/// The network file of a network, of the least version that can say it: 2, or 3 where a phase names a further link, a link gives way or
+/// has a walk, or a ring is free. It has every mark and weight, and of what else may be absent `split` where it is true, `age`, `hold`, `recall`,
 /// `act_step`, `rate`, the ends of links, yields and walks where the network has them, and an array where it is not empty. What is read from it is
 /// this very network, with the same value of every accessor. `Err`: out of memory.
 ///
@@ -70,8 +70,9 @@ pub fn write_network(alloc: Global, net: &Network) -> Result<Vec<u8>, AllocError
     ensures { IfOk result (λ bytes. IsUpgraded bytes.items net.now) }
 {
     let parts = net.parts();
-    let draft = draft_by_names(alloc, parts)?;
-    crate::draft_texts::draft_text(alloc, &draft, version_of(parts))
+    let version = version_of(parts);
+    let draft = draft_by_names(alloc, parts, version == 3)?;
+    crate::draft_texts::draft_text(alloc, &draft, version)
 }
 
 /// The least version that can say the network of these parts.
@@ -92,6 +93,7 @@ fn is_plain(parts: &Parts) -> bool
     names_none
         && parts.yields.iter().all(|links| links.as_slice().is_empty())
         && parts.links.iter().all(|link| link.walk.is_none())
+        && parts.plans.iter().all(|plan| !plan.is_free())
 }
 
 /// Whether none of these phases names a link.

@@ -59,7 +59,8 @@ pub(crate) fn put_table<T: Element>(
     key: &str,
     element: &T,
 ) -> Result<(), AllocError>
-    ensures { OnOk result (HasData T.reading T.says T.deep key.now element.now (table_view table.old) (table_view table.new)) }
+    ensures { OnOk result
+        (HasData T.reading T.says T.deep key.now element.now (table_view table.old) (table_view table.new)) }
 {
     let value = table_of(alloc, element)?;
     put(alloc, table, key, value)
@@ -127,7 +128,8 @@ fn put_texts_if_any(
     key: &str,
     texts: &Items<Text>,
 ) -> Result<(), AllocError>
-    ensures { OnOk result (HasItemsIfAny text_in Always 0 key.now texts.now (table_view table.old) (table_view table.new)) }
+    ensures { OnOk result
+        (HasItemsIfAny text_in Always 0 key.now texts.now (table_view table.old) (table_view table.new)) }
 {
     if texts.as_slice().is_empty() {
         Ok(())

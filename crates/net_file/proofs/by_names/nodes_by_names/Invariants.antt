@@ -6,4 +6,4 @@ use Rattle.net_file.proofs.by_names.nodes_by_names.Given as goal
 
 -- the nodes so far
 abbrev pub invariant-loop-n : goal.invariant-loop-n
-invariant-loop-n l = l.nodes.items ≡ map (spec.node_by_names (net_of l.parts)) (range_with_len 0 l.n)
+invariant-loop-n l = l.nodes.items ≡ map (spec.node_by_names (net_of l.parts) l.third) (range_with_len 0 l.n)

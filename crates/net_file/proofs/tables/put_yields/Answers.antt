@@ -1,5 +1,4 @@
 use Rattle.std.proofs.lemmas.Result.{on_ok_weaker}
-use Rattle.toml.specs.Data.{no_items}
 use Rattle.net_file.proofs.LinkLaws.{yields-put, yields-none}
 use Rattle.net_file.proofs.tables.put_yields.Goals as goal
 
