@@ -3,7 +3,6 @@ use Rattle.std.specs.Prelude.{IfSome}
 use Rattle.std.proofs.Common.{◌≡◌, ℕ, ◌<◌, Bool, true, List, [], ◌∷◌, Option, Some, length, sym, ap, ◌∙◌, subst, inl, inr, arith}
 use Rattle.std.proofs.lemmas.Bool.{cases_lt, false≢true}
 use Rattle.std.proofs.lemmas.List.FromFn.{get_or-map-range_with_len}
-use Rattle.phase_plan.specs.Phases.{IsPlan}
 use Rattle.phase_plan.specs.declared.Phase.{Phase}
 use Rattle.net_parts.specs.Numbers.{Net}
 use Rattle.net_parts.specs.Outline.{link_at, plan_at}
@@ -20,7 +19,6 @@ use Rattle.net_simulator.specs.LinkGreens.{is_lit, loss_of}
 use Rattle.net_simulator.proofs.AtNodes.{end-below, past-alike}
 use Rattle.net_simulator.proofs.LightLaws.{AreAlike}
 use Rattle.road_net.specs.Network.{IsNetwork}
-use Rattle.signal_safety.proofs.Lines.{plan-is}
 use Rattle.road_net.specs.Through.{is_through}
 use Rattle.world_records.specs.Told.{told_after, told_by, told_line}
 use Rattle.world_records.proofs.ToldSigns.{row-late, row-told}
@@ -79,9 +77,8 @@ module _ (net : Net) (network : IsNetwork net) (arriving : ℕ → ℕ → ℕ) 
         shows : (x l node : ℕ) → x < end_of_run net → (link_at net l).to ≡ Some node → told.AreAlike (is_lit net l x) (signs_by (line_in cut) x node) (signs_by (line_in s.lines) x node)
         shows x l node early to =
             let below : node < length net.node_names = subst (λ (o : Option ℕ). IfSome o (λ k. k < length net.node_names)) to (end-below net network l) in
-            let plan : IsPlan (plan_at net node) = plan-is net network node below in
             subst (λ (rows : List Green). told.AreAlike (is_lit net l x) (sign_at rows x) (sign_at (line_in s.lines node) x)) (sym (cut-line net end s node below))
-            (told-alike net l node to (plan_at net node) plan end x early (line_in s.lines node) (lawful node below))
+            (told-alike net l node to (plan_at net node) end x early (line_in s.lines node) (lawful node below))
 
     past-cut : cumulative_of_lines net arriving (cut_at net (end_of_run net) s).lines ≡ cumulative_of_lines net arriving s.lines
     past-cut = past-alike net arriving (signs_by (line_in cut)) (signs_by (line_in s.lines)) end cut-alike

@@ -5,70 +5,28 @@ use Rattle.std.proofs.lemmas.Bool.{and_parts, cases_Bool, cases_lt, false≢true
 use Rattle.std.proofs.lemmas.List.{get_or_past}
 use Rattle.std.proofs.lemmas.List.Folds.{list_any_at}
 use Rattle.std.proofs.lemmas.Option.{same_Some}
-use Rattle.std.proofs.lemmas.List.Sums.{sum_by-cons}
-use Rattle.phase_plan.specs.Phases.{IsMarkedAt, IsPlan, between, is_unmarked, phase_at}
 use Rattle.phase_plan.specs.declared.Phase.{Phase}
 use Rattle.net_parts.specs.Numbers.{Net, has_link}
 use Rattle.net_parts.specs.Outline.{also_at, also_links_at, is_green_in, is_green_to, link_at, walk_at}
 use Rattle.net_parts.specs.declared.roads.Walk.{Walk}
 use Rattle.road_net.specs.Through.{is_through, may_stay, names_staying}
 use Rattle.road_net.proofs.Serving.{is_link}
-use Rattle.control_flow.specs.Greens.{Follows, IsLawful}
+use Rattle.control_flow.specs.Greens.{IsLawful}
 use Rattle.control_flow.specs.Signs.{is_on_in, on_of, sign_after, sign_at}
 use Rattle.control_flow.specs.declared.greens.Green.{Green}
 use Rattle.control_flow.specs.declared.greens.Sign.{Sign}
 use Rattle.control_flow.specs.declared.greens.Sign.TheVariants as signs
-use Rattle.control_flow.proofs.MarkLaws.{all-round, each-of-range}
 use Rattle.control_flow.proofs.RowLaws.{lawful-next, lawful-tail}
 use Rattle.control_flow.proofs.SignLaws.{after-row, before-row, within-row}
 use Rattle.world_records.specs.Told.{told_after, told_rows}
 use Rattle.world_records.proofs.ToldSigns.{row-late, row-told, told-shows, told-standing}
-
--- ---- no row follows one of its own phase
-
-others-marked : (plan : List Phase) (s : ℕ) → All (IsMarkedAt plan) (between plan s s) → (k : ℕ) → k < length plan → k ≢ s → IsMarkedAt plan k
-others-marked plan s all k below other =
-    let both = (all-round (IsMarkedAt plan) plan s s (length plan) refl (omega arith)).1 all in
-    elim (cases_lt k s) [
-      | inl less ↦ each-of-range (IsMarkedAt plan) 0 s both.1 k (omega arith) less
-      | inr most ↦
-          let apart : s < k = elim (cases_lt s k) [ inl less ↦ less | inr more ↦ absurd (other (omega (arith, most, more))) ] in
-          each-of-range (IsMarkedAt plan) (s + 1) (length plan) both.0 k (omega (arith, apart)) below
-    ]
-
-abbrev counted : Bool → ℕ
-counted skip = cond (not skip) 1 0
-
-few-counted : (skip : Bool) → counted skip ≤ 1
-few-counted true = omega arith
-few-counted false = omega arith
-
-none-counted : (plan : List Phase) → ((k : ℕ) → k < length plan → (phase_at plan k).skip ≡ true) → count_by is_unmarked plan ≡ 0
-none-counted [] each = refl
-none-counted (p ∷ plan) each =
-    let first : counted p.skip ≡ 0 = ap counted (each 0 (omega arith)) in
-    omega (arith, sum_by-cons (λ (q : Phase). cond (is_unmarked q) 1 0) p plan, first, none-counted plan (λ k h. each (suc k) (omega (arith, h))))
-
-one-counted : (plan : List Phase) (s : ℕ) → ((k : ℕ) → k < length plan → k ≢ s → (phase_at plan k).skip ≡ true) → count_by is_unmarked plan ≤ 1
-one-counted [] s each = omega arith
-one-counted (p ∷ plan) zero each =
-    let first : counted p.skip ≤ 1 = few-counted p.skip in
-    omega (arith, sum_by-cons (λ (q : Phase). cond (is_unmarked q) 1 0) p plan, first, none-counted plan (λ k h. each (suc k) (omega (arith, h)) (λ e. absurd (omega (arith, e)))))
-one-counted (p ∷ plan) (suc s) each =
-    let first : counted p.skip ≡ 0 = ap counted (each 0 (omega arith) (λ e. absurd (omega (arith, e)))) in
-    omega (arith, sum_by-cons (λ (q : Phase). cond (is_unmarked q) 1 0) p plan, first, one-counted plan s (λ k h other. each (suc k) (omega (arith, h)) (λ e. other (omega (arith, e)))))
-
-rows-differ : (plan : List Phase) → IsPlan plan → (r n : Green) → Follows plan r n → r.phase ≢ n.phase
-rows-differ plan p r n follows same =
-    let all : All (IsMarkedAt plan) (between plan r.phase r.phase) = subst (λ (k : ℕ). All (IsMarkedAt plan) (between plan r.phase k)) (sym same) follows.passed in
-    omega (arith, one-counted plan r.phase (others-marked plan r.phase all), p.ring)
 
 -- ---- signs that light something alike: they are the same, or it is lit under neither
 
 abbrev pub AreAlike : (Sign → Bool) → Sign → Sign → Type 0
 AreAlike lit s t = (s ≡ t) ⊎ ((lit s ≡ false) × (lit t ≡ false))
 
-module _ (lit : Sign → Bool) (dark : lit signs.Dark ≡ false) (plan : List Phase) (p : IsPlan plan) (never : (k j : ℕ) → k ≢ j → lit (signs.Change k j) ≡ false) (end second : ℕ) (early : second < end) where
+module _ (lit : Sign → Bool) (dark : lit signs.Dark ≡ false) (plan : List Phase) (never : (k j : ℕ) → k ≢ j → lit (signs.Change k j) ≡ false) (end second : ℕ) (early : second < end) where
   alike-row : (before : Option ℕ) (r : Green) (rs ss : List Green) → AreAlike lit (sign_after (Some r.phase) rs second) (sign_after (Some r.phase) ss second)
       → AreAlike lit (sign_after before (r ∷ rs) second) (sign_after before (r ∷ ss) second)
   alike-row before r rs ss alike = elim (cases_lt second r.from) [
@@ -89,7 +47,7 @@ module _ (lit : Sign → Bool) (dark : lit signs.Dark ≡ false) (plan : List Ph
         (alike-row (Some r.phase) n (told_after false end n.to ns) ns (alike-after n ns (lawful-tail plan r (n ∷ ns) lawful)))
     | inr late ↦
         subst (λ (l : List Green). AreAlike lit (sign_after (Some r.phase) l second) (sign_after (Some r.phase) (n ∷ ns) second)) (sym (row-late false end r.to n ns late))
-        (inr (dark, ap lit (before-row (Some r.phase) n ns second (omega (arith, late, early))) ∙ never r.phase n.phase (rows-differ plan p r n (lawful-next plan r n ns lawful))))
+        (inr (dark, ap lit (before-row (Some r.phase) n ns second (omega (arith, late, early))) ∙ never r.phase n.phase (λ same. (lawful-next plan r n ns lawful).other (sym same))))
   ]
 
   alike-at : (rows : List Green) → IsLawful plan rows → AreAlike lit (sign_at (told_rows false end rows) second) (sign_at rows second)
@@ -152,9 +110,9 @@ module _ (net : Net) (l node : ℕ) (to : (link_at net l).to ≡ Some node) (wal
   ]
 
 -- what is told of a lawful line shows each link that ends at its node green as the line does
-pub told-alike : (net : Net) (l node : ℕ) → (link_at net l).to ≡ Some node → (plan : List Phase) → IsPlan plan → (end second : ℕ) → second < end → (rows : List Green) → IsLawful plan rows
+pub told-alike : (net : Net) (l node : ℕ) → (link_at net l).to ≡ Some node → (plan : List Phase) → (end second : ℕ) → second < end → (rows : List Green) → IsLawful plan rows
     → AreAlike (is_on_in (is_green_in net l) (walk_at net l) second) (sign_at (told_rows (is_through net node) end rows) second) (sign_at rows second)
-told-alike net l node to plan p end second early rows lawful = by-walk (link_at net l).walk refl
+told-alike net l node to plan end second early rows lawful = by-walk (link_at net l).walk refl
   where
     green : ℕ → Bool
     green = is_green_in net l
@@ -164,7 +122,7 @@ told-alike net l node to plan p end second early rows lawful = by-walk (link_at 
 
     by-through : (link_at net l).walk ≡ None → (through : Bool) → is_through net node ≡ through → AreAlike (is_on_in green None second) (sign_at (told_rows through end rows) second) (sign_at rows second)
     by-through walk true is = inl (told-shows end rows second early)
-    by-through walk false is = alike-at (is_on_in green None second) refl plan p (never-two net l node to walk is) end second early rows lawful
+    by-through walk false is = alike-at (is_on_in green None second) refl plan (never-two net l node to walk is) end second early rows lawful
 
     by-walk : (walk : Option Walk) → (link_at net l).walk ≡ walk → AreAlike (is_on_in green (walk_at net l) second) (sign_at told second) (sign_at rows second)
     by-walk None is = subst (λ (w : Option Walk). AreAlike (is_on_in green (option_map (λ k. k.seconds) w) second) (sign_at told second) (sign_at rows second)) (sym is) (by-through is (is_through net node) refl)
