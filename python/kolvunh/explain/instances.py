@@ -65,7 +65,7 @@ class InstanceFile:
             if fields[0] != "cluster":
                 break
             phase, size, *further = map(int, fields[1:])
-            found[phase].append((number, [size, *further] if self.version == 3 else [size, size, *further]))
+            found[phase].append((number, [size, *further] if self.version >= 3 else [size, size, *further]))
         return found
 
     def end_line(self) -> int:
@@ -86,7 +86,8 @@ def instance_fault(file: str, code: list[str], is_certificate: bool) -> list[str
         case ["plan", "skips"]:
             marks = sum(text.fields(text.phase_line(phase))[-1] == "skip" for phase in range(text.phases))
             words = f"{marks} of the {text.phases} phases are marked `skip`, and at least two have to be `ring`"
-            return [text.say(text.phase_line(0), words)]
+            free = "; with all of them `skip` and any phase after any other it is a text of version 4"
+            return [text.say(text.phase_line(0), words + (free if marks == text.phases else ""))]
         case ["plan", phase, time]:
             return time_fault(text, int(phase), time)
         case ["head", _]:
@@ -242,11 +243,11 @@ def wanted_at(text: InstanceFile, line: int, is_certificate: bool) -> str | None
         return "`certificate 1`"
     place = line - (1 if is_certificate else 0)
     if place == 1:
-        return "`instance V` with V = 1, 2 or 3"
+        return "`instance V` with V = 1, 2, 3 or 4"
     if place == 2:
         return "`phases P` with P = 2, 3 or 4"
     if place <= 2 + text.phases:
-        mark = "" if text.version == 1 else " ring` or `.. skip"
+        mark = {1: "", 4: " skip"}.get(text.version, " ring` or `.. skip")
         return f"`phase LEAST GREATEST YELLOW CLEAR LOSS WAIT{mark}`"
     if place == 3 + text.phases:
         return "`head PHASE SINCE AT fresh` or `.. kept`"
@@ -256,7 +257,7 @@ def wanted_at(text: InstanceFile, line: int, is_certificate: bool) -> str | None
 def wanted_after_head(text: InstanceFile, line: int, is_certificate: bool) -> str | None:
     """The form of a line after the head's."""
     before = text.lines[text.head_line : line - 1]
-    load = " LOAD" if text.version == 3 else ""
+    load = " LOAD" if text.version >= 3 else ""
     if "end" not in before:
         return f"`cluster PHASE SIZE{load} ARR LEN` with PHASE 0 to {text.phases - 1}, none below the one before, or `end`"
     if not is_certificate:
@@ -302,6 +303,8 @@ def why_not_here(text: InstanceFile, line: int) -> str:
     before = text.fields(line - 1) if line > 1 else []
     if fields[0] == "phase" and fields[-1] == "ring" and text.version == 2:
         return ": a text of version 2 has a phase with `skip`; without any it is of version 1, and has no `ring`"
+    if fields[0] == "phase" and fields[-1] == "ring" and text.version == 4:
+        return ": in a text of version 4 each phase is marked `skip`; with a `ring` it is of version 2 or 3"
     if fields == ["end"] and text.version == 3:
         return ": a text of version 3 has a cluster whose LOAD is not its SIZE; without any it is of version 1 or 2, and has no LOAD"
     if fields[0] == "cluster" and fields[1].isdigit() and int(fields[1]) >= text.phases:
