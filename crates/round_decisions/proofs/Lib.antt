@@ -5,7 +5,11 @@ pub mod HearLaws
 pub mod KeptLaws
 pub mod LeftLaws
 pub mod LineLaws
+pub mod MovedLines
+pub mod MovedPlatoons
+pub mod MovedServings
 pub mod OfRunLaws
+pub mod OriginLaws
 pub mod PlayLaws
 pub mod RoundLaws
 pub mod SoonLaws

@@ -98,10 +98,10 @@ module _ (net : Net) (network : IsNetwork net) (node : ℕ) (below : node < leng
   abbrev phases : List Phase
   phases = round_plan net node sensed
 
-  phases-plan : IsPlan phases
+  pub phases-plan : IsPlan phases
   phases-plan = plan-round net node sensed plan
 
-  phases-head : IsHead phases c.head
+  pub phases-head : IsHead phases c.head
   phases-head = head-round net node sensed c.head soon-head.is
 
   each : length (cluster_lists c.window.lists) ≡ length phases
@@ -116,7 +116,7 @@ module _ (net : Net) (network : IsNetwork net) (node : ℕ) (below : node < leng
   served-next = subst (λ (p : Problem). AreNextServings p.plan p.lists (counts_of p.lists) p.head (phases_of c.answer) c.served) is.problem.is
       (schedule-made c.problem c.answer (phases_of c.answer) c.served (subst IsInstance (sym is.problem.is) instance_is) is.answer refl is.served).next
 
-  servings : AreServings phases c.head (phases_of c.answer) c.served
+  pub servings : AreServings phases c.head (phases_of c.answer) c.served
   servings = next-servings phases (cluster_lists c.window.lists) phases-plan each ready.clusters (phases_of c.answer) (counts_of (cluster_lists c.window.lists)) c.head c.served served-next
 
   greens : All (λ (s : Served). s.green ≤ sensed.now + farthest_begin) c.served

@@ -3,6 +3,7 @@ pub mod DecisionTexts
 pub mod Decisions
 pub mod Lines
 pub mod OfRuns
+pub mod Origins
 pub mod Promises
 pub mod Steps
 pub mod Turns
