@@ -156,6 +156,15 @@ class OwnTest(unittest.TestCase):
         subprocess.run(words, check=True, capture_output=True)
         self.assertEqual(outcome(self.folder, "actuated", 1).vehicles, 56)
 
+    def test_whom_a_crossing_meets(self):
+        """No other crossing, and who comes over its two edges or goes into them: three ways and three."""
+        junctions = self.signals.junctions
+        for node in self.signals.streets.programs:
+            for crossing in junctions.crossings[node]:
+                self.assertFalse(any(junctions.cross(crossing, other) for other in junctions.crossings[node]))
+                met = [move for move in junctions.movements[node] if junctions.cross(crossing, move)]
+                self.assertEqual((len(met), all(junctions.gives_way(move, crossing) for move in met)), (6, True))
+
     def test_a_network_that_is_another_one(self):
         (self.folder / "other.net.xml").write_text("<net/>", encoding="utf-8")
         with self.assertRaisesRegex(Fault, "it has no signal"):

@@ -57,7 +57,8 @@ class Junctions:
         self.after: dict[str, str] = {}
         self._requests: dict[str, list[tuple[str, str]]] = {}
         numbers = {}
-        for junction in root.iter("junction"):
+        # An internal junction, where vehicles wait in the middle, lists lanes of its junction at other places.
+        for junction in (found for found in root.iter("junction") if found.get("type") != "internal"):
             rows = junction.findall("request")
             self._requests[junction.get("id", "")] = [(row.get("foes", "")[::-1], row.get("response", "")[::-1]) for row in rows]
             numbers |= {lane: n for n, lane in enumerate(junction.get("intLanes", "").split()) if "_c" in lane}
