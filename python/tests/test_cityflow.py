@@ -13,7 +13,7 @@ from kolvunh.cityflow import Crossing, RoadNet, main, segments_cross
 from kolvunh.sumo.demand import Demand
 from kolvunh.sumo.drafts import Draft, write_draft
 from kolvunh.sumo.from_sumo import nodes_of
-from kolvunh.sumo.layout import Layout, read_places, read_tables
+from kolvunh.sumo.layout import read_places, read_tables
 from kolvunh.sumo.streets import Streets
 from kolvunh.sumo.to_sumo import convert, write_routes
 
@@ -77,7 +77,7 @@ class CityFlowTest(FilesTest):
         demand = Demand(streets, 3000)
         demand.read_routes(self.folder / "there.rou.xml")
         write_draft(Draft(streets.edges, streets.places, nodes_of(streets)[0], demand.vehicles), self.folder / "back")
-        first, back = parts(network, lambda name: name), parts_back(Layout(network, places), self.folder / "back")
+        first, back = parts(network, lambda name: name), parts_back(signals, self.folder / "back")
         for part in ("ends", "homes", "greens", "conflicts"):
             self.assertEqual(first[part], back[part], part)
 

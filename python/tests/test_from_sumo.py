@@ -17,8 +17,9 @@ from kolvunh.sumo.demand import Demand
 from kolvunh.sumo.drafts import Draft, names_in, write_draft
 from kolvunh.sumo.from_sumo import main, nodes_of, survey, survey_line
 from kolvunh.sumo.groups import Node
-from kolvunh.sumo.layout import Layout, read_places, read_tables, state_at
-from kolvunh.sumo.streets import Movement, Streets
+from kolvunh.sumo.layout import read_places, read_tables
+from kolvunh.sumo.signals import Signals, state_at
+from kolvunh.sumo.streets import Movement, Streets, edge_of
 from kolvunh.sumo.to_sumo import convert, write_routes
 
 
@@ -194,18 +195,68 @@ class NetworkTest(unittest.TestCase):
         self.assertEqual(also, {link["name"] for link in lefts})
         self.assertEqual((self.folder / "arrivals.csv").read_text().count(",1000\n"), 56)
 
-    def test_there_and_back(self) -> None:
-        """The network that SUMO has of an imported one has the same links, homes, greens and conflicts."""
-        write_draft(self.draft(self.drive(5)), self.folder)
+    def there_and_back(self, streets: Streets, demand: Demand) -> tuple[dict[str, Any], dict[str, Any], Signals]:
+        """The parts of an imported network, those of the one that SUMO's network of it gives, and the signals of that."""
+        write_draft(self.draft(demand, streets), self.folder)
         network, places = read_tables(self.folder / "net.toml"), read_places(self.folder / "places.csv")
         signals = convert(network, places, self.folder / "there")
-        self.assertEqual(list(signals.undeclared_crossings()), [])
         write_routes(signals.layout, self.folder / "arrivals.csv", 1, self.folder / "there.rou.xml")
-        streets = Streets(self.folder / "there/net.net.xml")
-        demand = Demand(streets, 3000)
+        back = Streets(self.folder / "there/net.net.xml")
+        demand = Demand(back, 3000)
         demand.read_routes(self.folder / "there.rou.xml")
-        write_draft(self.draft(demand, streets), self.folder / "back")
-        self.assertEqual(parts(network, lambda name: name), parts_back(Layout(network, places), self.folder / "back"))
+        write_draft(self.draft(demand, back), self.folder / "back")
+        return parts(network, lambda name: name), parts_back(signals, self.folder / "back"), signals
+
+    def test_there_and_back(self) -> None:
+        """The network that SUMO has of an imported one has the same links, homes, greens and conflicts."""
+        first, back, signals = self.there_and_back(self.streets, self.drive(5))
+        self.assertEqual(list(signals.undeclared_crossings()), [])
+        self.assertEqual(first, back)
+
+    def test_there_and_back_where_ways_begin_and_end_between_signals(self) -> None:
+        """Links that share a stop line, and exits that share a road, are lanes of one road there."""
+        rows = all_ways(self.streets)
+        first, back, signals = self.there_and_back(self.streets, self.demand(rows))
+        self.assertTrue(any(len(links) > 1 for links in signals.links_of.values()))
+        self.assertEqual(list(signals.undeclared_crossings()), [])
+        self.assertEqual(first, back)
+
+    def walks(self) -> tuple[Streets, Demand]:
+        """A square of four signals with crossings, vehicles on all ways in it, and somebody at each crossing."""
+        net = self.folder / "walks.net.xml"
+        words = "--grid --grid.number 2 --grid.length 200 --grid.attach-length 200 --turn-lanes 1 --turn-lanes.length 60"
+        words += " --default-junction-type traffic_light --no-turnarounds --crossings.guess --sidewalks.guess"
+        subprocess.run(["netgenerate", *words.split(), "-o", net], check=True, capture_output=True)
+        streets = Streets(net)
+        rows = all_ways(streets)
+        over = [move.over for node in streets.programs for move in streets.junctions.crossings[node]]
+        rows += "".join(f'<person id="p{n}" depart="{n}"><walk from="{a}" to="{b}"/></person>' for n, (a, b) in enumerate(over))
+        demand = Demand(streets, 3000)
+        demand.read_routes(self.file(rows))
+        return streets, demand
+
+    def test_there_and_back_on_foot(self) -> None:
+        """Crossings come back with whom they meet, for how long they are entered and crossed, and who comes to them."""
+        streets, demand = self.walks()
+        first, back, signals = self.there_and_back(streets, demand)
+        self.assertEqual((len(first["walks"]), len(signals.layout.on_foot)), (16, 16))
+        self.assertEqual(list(signals.undeclared_crossings()), [])
+        self.assertEqual(first, back)
+        came = [(self.folder / name).read_text(encoding="utf-8").count("\n") for name in ("arrivals.csv", "back/arrivals.csv")]
+        self.assertEqual(*came)
+
+    def test_whom_a_crossing_meets(self) -> None:
+        """A crossing meets who comes over its edges or goes into them, and no other crossing."""
+        streets, _ = self.walks()
+        junctions = streets.junctions
+        for node in streets.programs:
+            moves = [*junctions.movements[node], *junctions.crossings[node]]
+            for crossing in junctions.crossings[node]:
+                met = {other for other in moves if junctions.cross(crossing, other)}
+                over = [edge for edge in crossing.over for edge in (edge, f"{edge}.140.00")]
+                wanted = {move for move in junctions.movements[node] if {edge_of(move.lane), edge_of(move.exit_lane)} & set(over)}
+                self.assertEqual(met, wanted)
+                self.assertTrue(all(junctions.gives_way(move, crossing) for move in met))
 
     def command(self, *words: str | Path) -> tuple[object, list[str]]:
         """The status and the lines on standard error of the command."""
@@ -269,14 +320,23 @@ class NetworkTest(unittest.TestCase):
         self.assertEqual((status, len(lines), "traffic keeps left" in lines[0]), (0, 1, True))
 
 
-def parts_back(layout: Layout, folder: Path) -> dict[str, Any]:
+def all_ways(streets: Streets) -> str:
+    """A vehicle on the quickest way from each long edge to each other one, as rows of a file of routes."""
+    edges = [edge for edge in streets.edges if streets.edges[edge].lanes[0].length > 90]
+    ways = [way for start in edges for end in edges if len(way := streets.route(start, end) or []) > 1]
+    return "".join(f'<vehicle id="{n}" depart="{n}"><route edges="{" ".join(way)}"/></vehicle>' for n, way in enumerate(ways))
+
+
+def parts_back(signals: Signals, folder: Path) -> dict[str, Any]:
     """The parts of the network that came back into a folder, by the names of the first one."""
-    lanes, names = layout.link_of_lane(), {}
-    for kind, found in names_in(folder).items():
-        for name, sumo in found.items():
-            links = {lanes[lane] for lane in sumo.split(";") if lane in lanes} or {sumo}
-            names[name] = sumo if kind == "node" else "+".join(sorted(links))
-    return parts(read_tables(folder / "net.toml"), lambda name: names[name])
+    found, names = names_in(folder), {}
+    network = read_tables(folder / "net.toml")
+    for link in network["link"]:
+        start, of = found["node"].get(link.get("from", "")), found["link"][link["name"]].split(";")
+        links = {name for lane in of for name in signals.links_of.get(lane, [])}
+        links = {name for name in links if signals.layout.tables[name].get("from") == start}
+        names[link["name"]] = "+".join(sorted(links)) or of[0]
+    return parts(network, lambda name: names.get(name) or found["node"][name])
 
 
 def parts(network: dict[str, Any], named: Callable[[str], str]) -> dict[str, Any]:
@@ -288,6 +348,7 @@ def parts(network: dict[str, Any], named: Callable[[str], str]) -> dict[str, Any
             found["greens"] |= {(named(link), number) for link in [*phase["links"], *phase.get("also", [])]}
     to = [link for link in network["link"] if "to" in link]
     found["ends"] = {named(link["name"]): ("from" in link and named(link["from"]), named(link["to"])) for link in to}
+    found["walks"] = {named(link["name"]): (link["walk"], link["cross"]) for link in to if "walk" in link}
     found["yields"] = {named(link["name"]): set(map(named, link.get("yields", []))) for link in to}
     found["conflicts"] = {frozenset((named(pair["a"]), named(pair["b"]))) for pair in network["conflict"]}
     return found

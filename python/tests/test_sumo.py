@@ -8,9 +8,10 @@ import unittest
 from collections import Counter
 from pathlib import Path
 
-from kolvunh.sumo.layout import SUMO_HOME, Layout, read_places, read_tables, state_at, vehicles
+from kolvunh.sumo.layout import SUMO_HOME, Layout, read_places, read_tables, vehicles, walkers
 from kolvunh.sumo.loop import Loop, Sensors, repeat_arrivals, run_loop, seconds_to_end
 from kolvunh.sumo.measures import differences, outcome, run_words
+from kolvunh.sumo.signals import state_at
 from kolvunh.sumo.to_sumo import convert, element, report_programs, write_routes
 
 from .worked import EXAMPLES, ROOT
@@ -29,7 +30,7 @@ class ToldSensors(Sensors):
     """Sensors that are told the vehicles: each by its name, link, speed and way to the stop line."""
 
     def __init__(self, layout):
-        self._layout, self._queued, self._told = layout, set(), []
+        self._layout, self._queued, self._walks, self._told = layout, set(), {}, []
 
     def tell(self, now, *vehicles):
         self._told = vehicles
@@ -56,6 +57,19 @@ def ring_answer(state, phases=2, change=5):
     return "\n".join([*answer, *told, ""])
 
 
+def with_crossing(network):
+    """A network with a crossing over the street beside its first node, in the phase of the side street."""
+    zebra = {"name": "zebra", "to": "first", "travel": 1, "sat": 2000, "walk": 5, "cross": 6}
+    zebra["turn"] = [{"exit": "pavement", "share": 1000}]
+    links = [link | ({"yields": ["zebra"], "yield_sat": 100} if link["name"] == "side_first" else {}) for link in network["link"]]
+    links += [zebra, {"name": "pavement", "from": "first", "travel": 1, "sat": 5000}]
+    first, *nodes = network["node"]
+    phases = [first["phase"][0], first["phase"][1] | {"links": [*first["phase"][1]["links"], "zebra"]}]
+    into = [link["name"] for link in links if any(turn["exit"] == "west_out" for turn in link.get("turn", []))]
+    conflicts = [{"a": "zebra", "b": name} for name in ("west_in", *into) if name != "side_first"]
+    return network | {"node": [first | {"phase": phases}, *nodes], "link": links, "conflict": [*network["conflict"], *conflicts]}
+
+
 class LayoutTest(unittest.TestCase):
     def test_lanes_of_one_road(self):
         layout = Layout(read_tables(EXAMPLES / "junction.toml"), read_places(HERE / "places_junction.csv"))
@@ -66,18 +80,20 @@ class LayoutTest(unittest.TestCase):
         self.assertAlmostEqual(layout.angle("side_first", "first_second"), 90)
         self.assertAlmostEqual(layout.angle("side_first", "west_out"), -90)
 
-    def test_links_on_which_people_walk_are_left_out(self):
+    def test_links_on_which_people_walk(self):
         times = {"travel": 1, "sat": 2000, "walk": 5, "cross": 8}
         walk = {"name": "zebra", "to": "first", **times, "turn": [{"exit": "pavement", "share": 1000}]}
         exit = {"name": "pavement", "from": "first", "travel": 1, "sat": 5000}
         pair = {"a": "zebra", "b": "west_in"}
         network = CORRIDOR | {"link": [*CORRIDOR["link"], walk, exit], "conflict": [*CORRIDOR["conflict"], pair]}
         layout = Layout(network)
-        self.assertEqual((layout.network, layout.walks), (CORRIDOR, {"zebra"}))
+        self.assertEqual((layout.network, layout.walks), (CORRIDOR, {"zebra": walk}))
+        self.assertEqual(layout.crossings, {"zebra": [{"west_in"}]})
         with tempfile.TemporaryDirectory() as folder:
             path = Path(folder) / "arrivals.csv"
             path.write_text("second,link,amount\n0,zebra,1000\n1,west_in,1000\n")
             self.assertEqual([second for second, _ in vehicles(layout, path, 1)], [1])
+            self.assertEqual(walkers(layout, path), [(0, "zebra")])
 
     def test_colours(self):
         phases = [{"yellow": 3}, {"yellow": 3}]
@@ -198,6 +214,23 @@ class SumoTest(unittest.TestCase):
         lines = run_loop(signals, ring_answer, run_words(self.folder, "loop", 1, signals))
         self.assertEqual(list(differences(self.folder, "loop", 1, signals, lines)), [])
         self.assertEqual(lines["first"][:3], [(0, 0, 5), (1, 10, 20), (0, 25, 35)])
+
+    @unittest.skipUnless((Path(SUMO_HOME) / "tools/traci").is_dir(), "SUMO's tools are not installed")
+    def test_people_at_a_crossing(self):
+        """Who comes to a crossing waits in its queue, and walks in its green alone."""
+        network, states = with_crossing(CORRIDOR), []
+        signals = convert(network, None, self.folder)
+        self.assertEqual(signals.layout.crossings, {"zebra": [{"first-second", "second-first"}]})
+        self.assertEqual((list(signals.undeclared_crossings()), list(signals.layout.on_foot)), ([], ["zebra"]))
+        self.assertEqual([spans[-1][:1] for spans in (signals.at("first", [(1, 0, 20)], second) for second in (4, 5))], ["G", "r"])
+        arrivals = self.folder / "arrivals.csv"
+        arrivals.write_text("second,link,amount\n2,zebra,1000\n3,zebra,2000\n4,west_in,1000\n")
+        write_routes(signals.layout, arrivals, 1, self.folder / "routes.1.rou.xml")
+        lines = run_loop(signals, lambda state: states.append(state) or ring_answer(state), run_words(self.folder, "loop", 1, signals))
+        self.assertEqual(list(differences(self.folder, "loop", 1, signals, lines)), [])
+        told = [line for state in states for line in state.splitlines() if line.startswith("queue,zebra")]
+        self.assertEqual(max(int(line.split(",")[2]) for line in told), 3000)
+        self.assertEqual((self.folder / "loop.1.trips.xml").read_text().count("<personinfo"), 3)
 
     def test_a_grid_of_sumo(self):
         grid, routes, out = self.folder / "grid.net.xml", self.folder / "grid.rou.xml", self.folder / "out"

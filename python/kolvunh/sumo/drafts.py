@@ -367,15 +367,30 @@ def places_text(draft: Draft) -> str:
 
 
 def bends(draft: Draft, link: Link) -> Iterator[tuple[str, Point]]:
-    """Through which points a link leaves a node, and comes to one."""
+    """Through which points a link leaves a node, and comes to one; of a crossing through which the roads come that it goes over."""
     if link.key[0] and link.edge:
-        edge = draft.edges[link.edge]
-        (x, y), (x_way, y_way), near = draft.places[edge.start], edge.first, min(NEAR, edge.lanes[0].length / 3)
-        yield "begin", (x + near * x_way, y + near * y_way)
+        yield "begin", begin_of(draft, draft.edges[link.edge])
     if link.group and link.group.cross is None:
-        edge = draft.edges[link.group.edge]
-        (x, y), (x_way, y_way), near = draft.places[edge.end], edge.last, min(NEAR, edge.lanes[0].length / 3)
-        yield "end", (x - near * x_way, y - near * y_way)
+        yield "end", end_of(draft, draft.edges[link.group.edge])
+    elif link.group:
+        for number, move in enumerate(link.group.moves, 1):
+            over = [draft.edges[edge] for edge in move.over if edge in draft.edges]
+            points = [(end_of if edge.end == move.junction else begin_of)(draft, edge) for edge in over]
+            if points:
+                middle = sum(x for x, _ in points) / len(points), sum(y for _, y in points) / len(points)
+                yield "walk" if number == 1 else f"walk {number}", middle
+
+
+def begin_of(draft: Draft, edge: Edge) -> Point:
+    """A point on an edge near its begin."""
+    (x, y), (x_way, y_way), near = draft.places[edge.start], edge.first, min(NEAR, edge.lanes[0].length / 3)
+    return x + near * x_way, y + near * y_way
+
+
+def end_of(draft: Draft, edge: Edge) -> Point:
+    """A point on an edge near its end."""
+    (x, y), (x_way, y_way), near = draft.places[edge.end], edge.last, min(NEAR, edge.lanes[0].length / 3)
+    return x - near * x_way, y - near * y_way
 
 
 def open_end(draft: Draft, edge: Edge, leaves: bool, taken: set[str]) -> Point:

@@ -30,7 +30,8 @@ from ..faults import Fault
 from .demand import Demand
 from .drafts import MOST_ROUNDS, STEP, Draft, names_in, write_draft
 from .groups import Loss, Node
-from .layout import read_greens, read_tables, state_at
+from .layout import read_greens, read_tables
+from .signals import state_at
 from .streets import Streets
 from .to_sumo import element, report_program
 

@@ -1,41 +1,46 @@
-"""A network file laid out for SUMO: edges with lanes, vehicles with routes, and what a signal shows. Nothing here is proved."""
+"""A network file laid out for SUMO: edges with lanes, and vehicles and people with their ways. Nothing here is proved."""
 
-import math
 import os
 import random
 import tomllib
-from bisect import bisect_right
 from collections import defaultdict
-from types import MappingProxyType
 from typing import Any
 
 from ..arrivals import read_arrivals
 from ..faults import Fault
 from ..records import Place, rows_of, text_of
 from ..reports import read_report
-from .streets import Junctions, read_root
+from .crossings import crossings_of, heading
 
 SUMO_HOME = os.environ.setdefault("SUMO_HOME", "/usr/share/sumo")
 SPEED = 13.89  # metres a second
+TURN = 45  # degrees, above which a way leads to the outermost lanes
 LANE_SAT = 500  # what one lane lets through, in thousandths of a vehicle a second
 WEST, EAST, SOUTH, NORTH = (-1, 0), (1, 0), (0, -1), (0, 1)
 
 
 class Edge:
-    """Links between the same two places by the same points: their lanes, numbered from the right."""
+    """A road of SUMO: links between the same two places by the same points, and their lanes, numbered from the right."""
 
     def __init__(self, start, end, points):
         self.start, self.end, self.points, self.travel, self.lanes = start, end, points, 0, {}
 
     def lane_count(self):
-        return sum(len(lanes) for lanes in self.lanes.values())
+        return 1 + max(lane for lanes in self.lanes.values() for lane in lanes)
+
+    def heading(self, ends):
+        """In which direction the edge begins, or ends, in degrees from the north to the right."""
+        return heading(*(self.points[-2:] if ends else self.points[:2]))
 
 
 class Layout:
     """A network, where its nodes and the open ends of its links are, and its edges."""
 
     def __init__(self, network, places=None):
-        self.walks = {link["name"] for link in network["link"] if "walk" in link}
+        self.tables = {link["name"]: link for link in network["link"]}
+        self.walks = {name: link for name, link in self.tables.items() if "walk" in link}
+        self.declared = {frozenset((pair["a"], pair["b"])) for pair in network.get("conflict", [])}
+        self.declared |= {frozenset((link["name"], other)) for link in network["link"] for other in link.get("yields", [])}
         self.network = network = on_wheels(network, self.walks)
         self.links = {link["name"]: link for link in network["link"]}
         self.nodes = {node["name"]: node for node in network["node"]}
@@ -52,41 +57,77 @@ class Layout:
                     self.greens_of[link].add((node["name"], number))
         self.seconds = network["run"]["rounds"] * network["run"]["step"]
         self.places, self.edge_of, self.edges = places or places_in_line(network), {}, {}
-        for link in network["link"]:
+        for link in sorted(network["link"], key=lambda link: (-("from" in link and "to" in link), -link["travel"])):
             self._lay(link)
         for edge in self.edges.values():
             self._number_lanes(edge)
+        self.crossings = {walk: crossings_of(self, walk) for walk in self.walks}
+        self.on_foot, self.kept = {}, {}
 
     def _lay(self, link):
+        """Gives a link its edge. Those between two nodes come first, then the longest."""
         name, start, end = link["name"], link.get("from"), link.get("to")
         ends = ("node", start) if start else ("link", name), ("node", end) if end else ("link", name)
         for kind, of in set(ends) - set(self.places):
             raise Fault(f"the file of places has no row {kind},{of}")
         by = [self.places[kind, name] for kind in ("begin", "end") if (kind, name) in self.places]
         points = [self.places[ends[0]], *by, self.places[ends[1]]]
-        for edge_name, edge in self.edges.items():
-            if edge.points == points:
-                break
-        else:
-            edge_name, edge = (f"{start}-{end}" if start and end else name), Edge(*ends, points)
+        edge_name = next((of for of, edge in self.edges.items() if edge.points == points), None) or self._road_by(link)
+        if edge_name is None:
+            edge_name = f"{start}-{end}" if start and end else name
             edge_name = name if edge_name in self.edges else edge_name
-            self.edges[edge_name] = edge
+            self.edges[edge_name] = Edge(*ends, points)
+        edge = self.edges[edge_name]
         edge.lanes[name] = []
         edge.travel = max(edge.travel, link["travel"])
         self.edge_of[name] = edge_name
 
+    def _road_by(self, link):
+        """The edge on which an open link begins or ends: one that comes to its node by the same point, or leaves it so."""
+        if "from" in link and "to" in link:
+            return None
+        kind, at = ("end", "to") if "to" in link else ("begin", "from")
+        point = self.places.get((kind, link["name"]))
+        for name, edge in self.edges.items():
+            others = [other for other in edge.lanes if self.links[other].get(at) == link[at]]
+            if point is not None and any(self.places.get((kind, other)) == point for other in others):
+                return name
+        return None
+
     def _number_lanes(self, edge):
-        lane = 0
-        for link in sorted(edge.lanes, key=self.lean, reverse=True):
-            count = max(1, round(self.links[link]["sat"] / LANE_SAT))
-            edge.lanes[link] = list(range(lane, lane + count))
+        """Gives the links of an edge their lanes from the right; who leaves the network on it may drive on all of them."""
+        lane = first = 1 if self.has_sidewalk(edge) else 0
+        for links in sorted(self._stops(edge), key=lambda links: max(map(self.lean, links)), reverse=True):
+            count = max(1, round(sum(self.links[link]["sat"] for link in links) / LANE_SAT))
+            edge.lanes |= {link: list(range(lane, lane + count)) for link in links}
             lane += count
+        for link in [link for link in edge.lanes if "to" not in self.links[link]]:
+            own = first + max(1, round(self.links[link]["sat"] / LANE_SAT))
+            edge.lanes[link] = list(range(first, lane if lane > first else own))
+
+    def _stops(self, edge):
+        """The links of an edge that come to its node, in lists of those that share lanes: of the same greens, from different places."""
+        stops = []
+        for link in [link for link in edge.lanes if "to" in self.links[link]]:
+            like = next((links for links in stops if all(self._shares_lanes(link, other) for other in links)), None)
+            if like is None:
+                stops.append([link])
+            else:
+                like.append(link)
+        return stops
+
+    def _shares_lanes(self, link, other):
+        one, two = self.links[link], self.links[other]
+        alike = self.phase_of.get(link) == self.phase_of.get(other) and self.greens_of[link] == self.greens_of[other]
+        return alike and one.get("from") != two.get("from") and set(one.get("yields", [])) == set(two.get("yields", []))
+
+    def has_sidewalk(self, edge):
+        """Whether people walk beside an edge, on its lane 0: there is a crossing at one of its nodes."""
+        return bool({walk["to"] for walk in self.walks.values()} & {name for kind, name in (edge.start, edge.end) if kind == "node"})
 
     def heading(self, link, ends):
         """In which direction a link begins, or ends, in degrees from the north to the right."""
-        points = self.edges[self.edge_of[link]].points
-        (x, y), (to_x, to_y) = points[-2:] if ends else points[:2]
-        return math.degrees(math.atan2(to_x - x, to_y - y))
+        return self.edges[self.edge_of[link]].heading(ends)
 
     def angle(self, link, exit):
         """By how many degrees a vehicle turns from the link into the exit; above 0 is to the right."""
@@ -100,25 +141,63 @@ class Layout:
         here = self.edges[self.edge_of[link]].lanes[link]
         there = self.edges[self.edge_of[exit]].lanes[exit]
         angle = self.angle(link, exit)
-        if abs(angle) > 45:
+        if abs(angle) > TURN:
             near = slice(0, 1) if angle > 0 else slice(-1, None)
             straight = [turn for turn in self.links[link]["turn"] if turn["exit"] != exit]
             here, there = (here[near] if straight else here), there[near]
+        there = self.kept.get((link, self.edge_of[exit]), there)
         pairs = range(max(len(here), len(there)))
         return [(here[min(n, len(here) - 1)], there[min(n, len(there) - 1)]) for n in pairs]
 
-    def link_of_lane(self):
-        return {
-            f"{name}_{lane}": link for name, edge in self.edges.items() for link, lanes in edge.lanes.items() for lane in lanes
-        }
+    def roads_of_both(self, link, other):
+        """The roads to which two links lead."""
+        one, two = ({self.edge_of[turn["exit"]] for turn in self.links[of]["turn"]} for of in (link, other))
+        return one & two
+
+    def keep_apart(self, link, other):
+        """Has two links of a lane each turn into the outermost lane of a road, as they do not meet by the file."""
+        if any(len(self.edges[self.edge_of[of]].lanes[of]) > 1 for of in (link, other)):
+            return
+        both = self.roads_of_both(link, other)
+        for of in (link, other):
+            for exit in (turn["exit"] for turn in self.links[of]["turn"]):
+                road, angle = self.edge_of[exit], self.angle(of, exit)
+                if road in both:
+                    is_right = angle > self.angle(link if of == other else other, exit)
+                    self.kept[of, road] = self.lanes_of(road)[:1] if is_right else self.lanes_of(road)[-1:]
+                elif abs(angle) > TURN:
+                    self.kept[of, road] = self.lanes_of(road)[:1] if angle > 0 else self.lanes_of(road)[-1:]
+
+    def lanes_of(self, road):
+        """The lanes for vehicles of an edge, from the right."""
+        return sorted({lane for lanes in self.edges[road].lanes.values() for lane in lanes})
+
+    def let_meet(self, link, other):
+        """Has two links enter the roads to which both lead by all of their lanes, as they meet by the file."""
+        for road in self.roads_of_both(link, other):
+            self.kept |= {(link, road): self.lanes_of(road), (other, road): self.lanes_of(road)}
+
+    def links_of_lane(self):
+        """The links that come to a node by each lane."""
+        found = defaultdict(list)
+        for name, edge in self.edges.items():
+            for link in [link for link in edge.lanes if "to" in self.links[link]]:
+                for lane in edge.lanes[link]:
+                    found[f"{name}_{lane}"].append(link)
+        return dict(found)
+
+    def walk_over(self, node, edges):
+        """The link of the crossing at a node that goes over these edges, or None."""
+        at = [walk for walk in self.walks if self.walks[walk]["to"] == node]
+        return next((walk for walk in at if frozenset(edges) in self.crossings[walk]), None)
 
 
 def on_wheels(network, walks):
     """A network without the links on which people walk, and the exits to which they alone lead: SUMO is given vehicles alone."""
     used = {turn["exit"] for link in network["link"] if link["name"] not in walks for turn in link.get("turn", [])}
     led = {turn["exit"] for link in network["link"] if link["name"] in walks for turn in link.get("turn", [])} - used
-    links = [link for link in network["link"] if link["name"] not in walks | led]
-    conflicts = [pair for pair in network.get("conflict", []) if not walks & {pair["a"], pair["b"]}]
+    links = [link for link in network["link"] if link["name"] not in led | set(walks)]
+    conflicts = [pair for pair in network.get("conflict", []) if not set(walks) & {pair["a"], pair["b"]}]
     return network | {"link": links, "conflict": conflicts} if walks else network
 
 
@@ -191,77 +270,15 @@ def open_sides(network, node, order):
     }
 
 
-class Signals:
-    """The states by which SUMO's signals show the phases of a network's nodes."""
-
-    def __init__(self, layout, path):
-        self.layout, self.junctions = layout, Junctions(read_root(path, "net"))
-        self._link_of = layout.link_of_lane()
-        self.red = {name: "r" * len(self.junctions.movements[name]) for name in layout.nodes}
-        self.green = {
-            name: [self._state(name, number) for number in range(len(node["phase"]))] for name, node in layout.nodes.items()
-        }
-
-    def _state(self, node, phase):
-        state = list(self.red[node])
-        on = [
-            move for move in self.junctions.movements[node] if (node, phase) in self.layout.greens_of[self._link_of[move.lane]]
-        ]
-        for move in on:
-            state[move.index] = "g" if any(self.gives_way(move, other) for other in on) else "G"
-        return "".join(state)
-
-    def gives_way(self, move, other):
-        """Whether a movement gives way to another, by SUMO's network or by the file."""
-        yields = self.layout.links[self._link_of[move.lane]].get("yields", [])
-        return self.junctions.gives_way(move, other) or (self._link_of[other.lane] in yields and self.junctions.cross(move, other))
-
-    def tls(self, node):
-        """The name of a node's signal in SUMO."""
-        return node
-
-    def free_count(self, link, node, phase):
-        """How many of a link's movements are green in a phase and need not give way."""
-        moves = [move for move in self.junctions.movements[node] if self._link_of[move.lane] == link]
-        return sum(self.green[node][phase][move.index] == "G" for move in moves)
-
-    def at(self, node, rows, second):
-        """What the signal of a node shows in a second under rows of greens (phase, from, to)."""
-        return state_at(self.layout.nodes[node]["phase"], self.green[node], rows, second)
-
-    def undeclared_crossings(self):
-        """Pairs of links whose lanes cross, and of which the network says neither a conflict nor who gives way, each with its node."""
-        declared = {frozenset((pair["a"], pair["b"])) for pair in self.layout.network.get("conflict", [])}
-        declared |= {frozenset((name, other)) for name, link in self.layout.links.items() for other in link.get("yields", [])}
-        for node in self.layout.nodes:
-            found = set()
-            for one in self.junctions.movements[node]:
-                for other in self.junctions.movements[node]:
-                    pair = frozenset((self._link_of[one.lane], self._link_of[other.lane]))
-                    if len(pair) == 2 and pair not in declared and self.junctions.cross(one, other):
-                        found.add(tuple(sorted(pair)))
-            yield from ((node, *pair) for pair in sorted(found))
-
-
-def state_at(phases, greens, rows, second, walks=MappingProxyType({})):
-    """The state in a second under rows (phase, from, to); phases are those of the node's plan, greens their states.
-
-    In a green it is that of the phase, but for crossings, which are green in the first seconds alone: `walks` has their places in the
-    state and these seconds. In a change what is green before and after stays green; what else was green shows yellow, then red.
-    """
-    place = bisect_right(rows, second, key=lambda row: row[1]) - 1
-    if place < 0:
-        return "r" * len(greens[0])
-    phase, start, end = rows[place]
-    if second < end:
-        over = {at for at, seconds in walks.items() if second >= start + seconds}
-        return "".join("r" if at in over else letter for at, letter in enumerate(greens[phase]))
-    after = greens[rows[place + 1][0]] if place + 1 < len(rows) else "r" * len(greens[0])
-    ending = "y" if second < end + phases[phase]["yellow"] else "r"
-    return "".join(
-        letter if letter not in "Gg" or (after[at] in "Gg" and at not in walks) else "r" if at in walks else ending
-        for at, letter in enumerate(greens[phase])
-    )
+def walkers(layout, path):
+    """Who comes to a crossing in a file of arrivals, one for each 1000 of a link on which people walk: second and link."""
+    carried, found = defaultdict(int), []
+    for arrival in sorted(read_arrivals(path), key=lambda arrival: arrival.second):
+        if arrival.link in layout.walks:
+            carried[arrival.link] += arrival.amount
+            found += [(arrival.second, arrival.link)] * (carried[arrival.link] // 1000)
+            carried[arrival.link] %= 1000
+    return found
 
 
 def read_greens(path):

@@ -3,15 +3,17 @@
     tools/sumo/loop.py NET PLACES ARR DIR [--seed N] [--hours H] [--program WORDS]
 
 PLACES is that of to_sumo.py, or `-`. A vehicle joins the queue of its entry link in the first second in which it is slower than
-5 m/s there, and is in it until it leaves the link. Any other is coming, and reaches the end of its link as fast as it can
-speed up. Signals are set second by second. Afterwards what SUMO showed is compared with the greens that the program answered:
-the exit status is 1 where they differ. DIR/greens.csv has these greens as a report has them. With --hours it runs for so long in
-place of the network's rounds, and the vehicles of ARR come again each time that these are over. Nothing here is proved.
+5 m/s there, and is in it until it leaves the link; who waits before a crossing is in the queue of its link. Any other vehicle is
+coming, and reaches the end of its link as fast as it can speed up. Signals are set second by second. Afterwards what SUMO showed is
+compared with the greens that the program answered: the exit status is 1 where they differ. DIR/greens.csv has these greens as a
+report has them. With --hours it runs for so long in place of the network's rounds, and the vehicles of ARR come again each time that
+these are over. Nothing here is proved.
 """
 
 import contextlib
 import csv
 import io
+import re
 import shlex
 import subprocess
 import sys
@@ -25,6 +27,7 @@ from ..faults import Fault
 from ..programs import built_program_words
 from .layout import SPEED, SUMO_HOME, read_tables, read_places
 from .measures import differences, outcome, run_words
+from .streets import edge_of
 from .to_sumo import convert, write_routes
 
 sys.path.append(f"{SUMO_HOME}/tools")
@@ -137,30 +140,44 @@ def seconds_to_end(way, speed):
 
 
 class Sensors:
-    """SUMO's vehicles on the entry links; one within a junction is at the begin of the link that it comes to."""
+    """SUMO's vehicles on the entry links, and people who wait before crossings; who is within a junction begins the link it comes to."""
 
     def __init__(self, traci, signals):
-        self._queued = set()
-        self._traci, self._layout, self._link_of = traci, signals.layout, signals.layout.link_of_lane()
+        self._queued, self._routes = set(), {}
+        self._traci, self._layout, self._links_of = traci, signals.layout, signals.layout.links_of_lane()
+        self._walks = {edge_of(lane): links[0] for lane, links in signals.links_of.items() if links[0] in signals.layout.walks}
         self._after = signals.junctions.after
-        self._length = {lane: traci.lane.getLength(lane) for lane in self._link_of}
+        self._length = {lane: traci.lane.getLength(lane) for lane in self._links_of}
 
     def vehicles(self):
         """Each vehicle on an entry link, with the link, its speed and its way to the stop line."""
-        values = self._traci.constants.VAR_LANE_ID, self._traci.constants.VAR_SPEED, self._traci.constants.VAR_LANEPOSITION
+        constants = self._traci.constants
+        values = constants.VAR_LANE_ID, constants.VAR_SPEED, constants.VAR_LANEPOSITION, constants.VAR_ROUTE_INDEX
         for vehicle in self._traci.simulation.getDepartedIDList():
             self._traci.vehicle.subscribe(vehicle, values)
+            self._routes[vehicle] = self._traci.vehicle.getRoute(vehicle)
         for vehicle, found in self._traci.vehicle.getAllSubscriptionResults().items():
-            lane, speed, place = (found[value] for value in values)
+            lane, speed, place, index = (found[value] for value in values)
             if lane in self._after:
-                lane, speed, place = self._after[lane], SPEED, 0
-            link = self._link_of.get(lane)
-            if link is not None and "to" in self._layout.links[link]:
-                yield vehicle, link, speed, self._length[lane] - place
+                lane, speed, place, index = self._after[lane], SPEED, 0, index + 1
+            if index + 1 < len(self._routes[vehicle]) and lane in self._links_of:
+                yield vehicle, self._link(lane, index), speed, self._length[lane] - place
+
+    def _link(self, lane, index):
+        """The link of a vehicle by its lane; of those that share it, by whether it enters the network on this edge."""
+        links = self._links_of[lane]
+        return next((link for link in links if ("from" in self._layout.links[link]) == (index > 0)), links[0])
+
+    def people(self):
+        """The link of each one who waits before a crossing."""
+        for person in self._traci.person.getIDList() if self._walks else ():
+            crossing = self._traci.person.getNextEdge(person)
+            if crossing in self._walks and re.match(r":.*_w\d+$", self._traci.person.getRoadID(person)):
+                yield self._walks[crossing]
 
     def look(self, now):
         """The vehicles in each queue, and how many come to the end of each link in which second. It is asked in each second."""
-        queues, coming, queued = Counter(), Counter(), set()
+        queues, coming, queued = Counter(self.people()), Counter(), set()
         for vehicle, link, speed, way in self.vehicles():
             if speed < SLOW or (vehicle, link) in self._queued:
                 queued.add((vehicle, link))

@@ -4,7 +4,7 @@ import xml.etree.ElementTree as ElementTree
 from typing import NamedTuple
 from xml.sax.saxutils import quoteattr
 
-from .layout import Signals
+from .signals import Signals
 
 
 class Outcome(NamedTuple):

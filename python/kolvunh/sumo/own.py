@@ -1,15 +1,15 @@
 """SUMO's own network under an imported one: what its signals show, and its vehicles by the links. Nothing here is proved."""
 
-import re
-from collections import Counter, defaultdict
+from collections import defaultdict
 from pathlib import Path
 from typing import Any
 
 from ..faults import Fault
 from .drafts import names_in
 from .groups import SHORT
-from .layout import SPEED, read_tables, state_at
+from .layout import SPEED, read_tables
 from .loop import SLOW, Sensors
+from .signals import state_at
 from .streets import Streets, edge_of
 from .to_sumo import element
 
@@ -143,12 +143,3 @@ class OwnSensors(Sensors):
         way = (first.length - place) / first.speed + sum(self._edges[edge].seconds for edge in edges[1:])
         scaled = speed * SPEED / first.speed
         return (scaled if len(edges) == 1 else max(scaled, SLOW)), way * SPEED
-
-    def look(self, now):
-        """The queues, and how many come in which second, as of vehicles; people who wait before a crossing are in its queue."""
-        queues, coming = super().look(now)
-        for person in self._traci.person.getIDList() if self._walks else ():
-            crossing = self._traci.person.getNextEdge(person)
-            if crossing in self._walks and re.match(r":.*_w\d+$", self._traci.person.getRoadID(person)):
-                queues[self._walks[crossing]] += 1
-        return queues, Counter(coming)

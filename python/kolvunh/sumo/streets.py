@@ -38,7 +38,10 @@ def edge_of(lane: str) -> str:
 
 
 class Movement(NamedTuple):
-    """A way through a junction: from lane to lane, its place in the signal's state, its number at the junction, and where it turns."""
+    """A way through a junction: from lane to lane, its place in the signal's state, its number at the junction, and where it turns.
+
+    Of a crossing `lane` is its own, and `over` has the edges that it goes over.
+    """
 
     lane: str
     exit_lane: str
@@ -46,6 +49,7 @@ class Movement(NamedTuple):
     junction: str
     number: int
     direction: str = "s"
+    over: tuple[str, ...] = ()
 
 
 class Junctions:
@@ -62,10 +66,11 @@ class Junctions:
             rows = junction.findall("request")
             self._requests[junction.get("id", "")] = [(row.get("foes", "")[::-1], row.get("response", "")[::-1]) for row in rows]
             numbers |= {lane: n for n, lane in enumerate(junction.get("intLanes", "").split()) if "_c" in lane}
+        over = {edge.get("id", ""): tuple(edge.get("crossingEdges", "").split()) for edge in root.iter("edge")}
         for row in root.iter("connection"):
-            self._add(row, numbers)
+            self._add(row, numbers, over)
 
-    def _add(self, row: ElementTree.Element, numbers: dict[str, int]) -> None:
+    def _add(self, row: ElementTree.Element, numbers: dict[str, int], over: dict[str, tuple[str, ...]]) -> None:
         lane, exit_lane = f"{row.get('from')}_{row.get('fromLane')}", f"{row.get('to')}_{row.get('toLane')}"
         if lane.startswith(":"):
             self.after[lane] = exit_lane
@@ -76,7 +81,8 @@ class Junctions:
             self.movements[signal].append(Movement(lane, exit_lane, *place))
         elif signal and exit_lane in numbers:
             junction = re.sub(r"_c\d+_\d+$", "", exit_lane[1:])
-            self.crossings[signal].append(Movement(exit_lane, "", int(row.get("linkIndex", 0)), junction, numbers[exit_lane], WALKS))
+            place = int(row.get("linkIndex", 0)), junction, numbers[exit_lane], WALKS
+            self.crossings[signal].append(Movement(exit_lane, "", *place, over.get(edge_of(exit_lane), ())))
 
     def _row(self, one: Movement, column: int) -> str:
         rows = self._requests.get(one.junction, [])
