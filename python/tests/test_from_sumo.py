@@ -64,6 +64,14 @@ class NodeTest(unittest.TestCase):
         always = Node("a", lanes, [(30, "GgGr"), (3, "ygyr"), (30, "rGrG"), (3, "rgry")], relations)
         self.assertEqual([always.clear_after(phase) for phase in (0, 1)], [0, 0])
 
+    def test_how_many_are_trapped(self) -> None:
+        """Two seconds more of all-red for each third one who has room within the junction."""
+        states = [(30, "GgGr"), (3, "yyyr"), (30, "rrrG"), (3, "rrry")]
+        for room, seconds in ((14.9, 2), (15, 4), (22.5, 6)):
+            lanes = moves("west_0", "west_1", "east_0", "south_0")
+            lanes[1] = lanes[1]._replace(room=room)
+            self.assertEqual(Node("a", lanes, states, Crossroads((1, 2))).clear_after(0), seconds)
+
     def test_a_lane_of_which_only_some_is_green(self) -> None:
         states = [(30, "Ggr"), (3, "yyr"), (30, "Grr"), (3, "yrr"), (30, "rrG"), (3, "rry")]
         lanes = [Movement(lane, f"out{place}_0", place, "j", place) for place, lane in enumerate(("west_0", "west_0", "south_0"))]

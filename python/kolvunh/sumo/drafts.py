@@ -16,12 +16,12 @@ from typing import NamedTuple
 
 from ..records import rows_of, text_of
 from .demand import Vehicle
-from .groups import MOST_GROUPS, WALK, Group, Node
+from .groups import MOST_GROUPS, VEHICLE, WALK, Group, Node
 from .streets import Edge, Point
 
 STRAIGHT_SAT, TURNING, SPEED = 500, 0.9, 13.89  # thousandths of a vehicle a second by a lane at this speed; a turning lane's part of it
 GIVING_SAT, LEAST_SAT, WALK_SAT = 100, 200, 2000  # by a lane of vehicles that give way; by a link; of people on foot
-VEHICLE, HEADWAY = 7.5, 1.0  # metres of a standing vehicle with its gap, seconds between two that drive
+HEADWAY = 1.0  # seconds between two that drive
 GREATEST, LOSS, WAIT = 50, 2, 3600  # seconds, of each phase
 STEP, MOST_ROUNDS, AFTER = 5, 600, 120  # seconds; rounds; rounds after the last vehicle has started
 MOST_TRAVEL, MOST_SAT, MOST_TURNS = 120, 5000, 16

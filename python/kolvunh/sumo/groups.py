@@ -14,6 +14,8 @@ from .streets import Movement, edge_of
 SHORT = 5  # seconds: a green that is shorter is part of a change
 MOST_PHASES, MOST_GROUPS, MOST_YELLOW = 4, 16, 10
 CLEARING, LEAVING = 3, 2  # seconds of all-red after a phase in which somebody gives way: his next green may be left out; he has none
+VEHICLE = 7.5  # metres of a standing vehicle with its gap
+INSIDE, FOLLOWING = 2, 2  # vehicles that wait within a junction, for which these seconds are enough; seconds for each further one
 WALK = 5  # seconds in which a crossing may be entered
 WALKING = 1.2  # metres a second
 
@@ -237,7 +239,10 @@ class Node:
         follow = self._followers(phase)
         giving = [group for group in self.groups if phase in group.shown & group.giving and not follow <= group.shown]
         own = any(follow & group.shown for group in giving)
-        return max(self.phases[phase].clear, CLEARING if own else LEAVING if giving else 0)
+        ways = [move for group in giving for move in group.moves if self.letter(phase, move) == "g"]
+        waiting = max((1 + int(move.room // VEHICLE) for move in ways), default=0)
+        least = (CLEARING if own else LEAVING) + FOLLOWING * max(0, waiting - INSIDE) if giving else 0
+        return max(self.phases[phase].clear, min(MOST_YELLOW, least))
 
     def _followers(self, phase: int) -> set[int]:
         """The phases that may come next after one: those up the ring, to the first that is always shown."""

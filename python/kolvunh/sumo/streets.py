@@ -40,7 +40,8 @@ def edge_of(lane: str) -> str:
 class Movement(NamedTuple):
     """A way through a junction: from lane to lane, its place in the signal's state, its number at the junction, and where it turns.
 
-    Of a crossing `lane` is its own, and `over` has the edges that it goes over.
+    Of a crossing `lane` is its own, and `over` has the edges that it goes over. `room` is how many metres there are within the junction
+    for those who give way.
     """
 
     lane: str
@@ -50,6 +51,7 @@ class Movement(NamedTuple):
     number: int
     direction: str = "s"
     over: tuple[str, ...] = ()
+    room: float = 0
 
 
 class Junctions:
@@ -61,16 +63,20 @@ class Junctions:
         self.after: dict[str, str] = {}
         self._requests: dict[str, list[tuple[str, str]]] = {}
         numbers = {}
+        lengths = {lane.get("id", ""): float(lane.get("length", 0)) for lane in root.iter("lane")}
         # An internal junction, where vehicles wait in the middle, lists lanes of its junction at other places.
         for junction in (found for found in root.iter("junction") if found.get("type") != "internal"):
             rows = junction.findall("request")
             self._requests[junction.get("id", "")] = [(row.get("foes", "")[::-1], row.get("response", "")[::-1]) for row in rows]
             numbers |= {lane: n for n, lane in enumerate(junction.get("intLanes", "").split()) if "_c" in lane}
         over = {edge.get("id", ""): tuple(edge.get("crossingEdges", "").split()) for edge in root.iter("edge")}
+        # Who gives way within a junction waits at the end of a lane that another one of the junction goes on from.
+        rooms = {row.get("from", ""): row.get("via") for row in root.iter("connection") if row.get("from", "").startswith(":")}
         for row in root.iter("connection"):
-            self._add(row, numbers, over)
+            via = row.get("via", "")
+            self._add(row, numbers, over, lengths.get(via, 0) if rooms.get(edge_of(via)) else 0)
 
-    def _add(self, row: ElementTree.Element, numbers: dict[str, int], over: dict[str, tuple[str, ...]]) -> None:
+    def _add(self, row: ElementTree.Element, numbers: dict[str, int], over: dict[str, tuple[str, ...]], room: float) -> None:
         lane, exit_lane = f"{row.get('from')}_{row.get('fromLane')}", f"{row.get('to')}_{row.get('toLane')}"
         if lane.startswith(":"):
             self.after[lane] = exit_lane
@@ -78,7 +84,7 @@ class Junctions:
         if signal and "via" in row.attrib:
             junction, first, further = re.fullmatch(r":(.*)_(\d+)_(\d+)", row.get("via", "")).groups()
             place = int(row.get("linkIndex", 0)), junction, int(first) + int(further), direction
-            self.movements[signal].append(Movement(lane, exit_lane, *place))
+            self.movements[signal].append(Movement(lane, exit_lane, *place, room=room))
         elif signal and exit_lane in numbers:
             junction = re.sub(r"_c\d+_\d+$", "", exit_lane[1:])
             place = int(row.get("linkIndex", 0)), junction, numbers[exit_lane], WALKS
