@@ -124,7 +124,7 @@ pub enum Command<'a> {
         side: u32,
         rounds: u32,
     },
-    /// Writes a network as a file of version 2.
+    /// Writes a network as a file of the least version that says it.
     Upgrade {
         net: &'a str,
     },

@@ -28,7 +28,7 @@ use Rattle.commands.specs.Summary.{scale_line, totals_line}
 
 -- The run of a network under actuated control, where this enters each link in each second: all last lines are lawful, the network is
 -- safe under them, and in each second of the run they show the signs by which the world moved; and each queue of a phase that has a
--- bound loses something within it.
+-- bound, of a link without a walk, loses something within it.
 pub record IsActuatedRun (net : Net) (arriving : ℕ → ℕ → ℕ) (record_of_run : LineRun) : Type 0 where
   pub run : IsActRun net arriving record_of_run
   pub lawful : AreLawful net record_of_run.timelines
@@ -70,8 +70,8 @@ abbrev pub fixed_timelines : Net → List FixedRow → List (List Green)
 fixed_timelines net rows = map (fixed_line net rows) (range_with_len 0 (length net.node_names))
 
 -- The bytes are the report of the timelines of a fixed plan and of what the world shows under them: they are lawful, the network is
--- safe under them, each queue of a phase that has a bound under the plan loses something within it, and an audit finds nothing in the
--- report.
+-- safe under them, each queue of a phase that has a bound under the plan, of a link without a walk, loses something within it, and an
+-- audit finds nothing in the report.
 pub record IsFixedReport (net : Net) (arriving : ℕ → ℕ → ℕ) (rows : List FixedRow) (bytes : List ℕ) : Type 0 where
   pub sheet : Sheet
   pub lines : sheet.lines ≡ fixed_timelines net rows

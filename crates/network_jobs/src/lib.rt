@@ -1,6 +1,6 @@
 //! The commands over a network: the report of the turn order's run, that of a history's run, and that of a run in threads; the
-//! instance that a node planned in a run; the summary of a run on a grid; a network as a file of version 2; and how long its
-//! queues can wait.
+//! instance that a node planned in a run; the summary of a run on a grid; a network as a file of the least version that says
+//! it; and how long its queues can wait.
 #![tactic(auto)]
 
 mod bounds;

@@ -33,7 +33,7 @@ SensesFew net es node = sum_by amount (sensed_in net es node).links ≤ most_of_
 abbrev pub BeginSoon : List Entry → ℕ → Type 0
 BeginSoon es node = BeginBy (now_of es + farthest_begin) (all_said green_said es node)
 
--- the queue of a link has stood for as long as it can have
+-- the queue of a link has stood for no longer than it can have
 abbrev pub StoodInTime : List Entry → ℕ → Type 0
 StoodInTime es link = CanHaveStood (now_of es) (queue_in es link)
 
@@ -54,7 +54,7 @@ pub record AreTold (net : Net) (asked : Asked) (es : List Entry) : Type 0 where
   pub lines : AllGoOn net asked es
   pub few : (n : ℕ) → n < length net.node_names → SensesFew net es n
 
--- each queue has stood for as long as it can have, and no green begins too late
+-- each queue has stood for no longer than it can have, and no green begins too late
 abbrev pub AllStoodInTime : Net → List Entry → Type 0
 AllStoodInTime net es = (l : ℕ) → l < length net.link_names → StoodInTime es l
 

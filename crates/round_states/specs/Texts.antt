@@ -106,7 +106,7 @@ pub record IsBoardOnce (net : Net) (es : List Entry) (link : ℕ) : Type 0 where
 abbrev pub GoesOn : Net → Asked → List Entry → ℕ → Type 0
 GoesOn net asked es node = IsAsked asked node ⊎ (0 < length (all_said green_said es node)) → IsLineAt (plan_at net node) (now_of es) (all_said green_said es node)
 
--- a queue has stood for as many seconds as it can have by a second: none where there is no queue, and no more than there were
+-- a queue has stood for no more seconds than it can have by a second: none where there is no queue, and no more than there were
 pub record CanHaveStood (now : ℕ) (queue : Standing) : Type 0 where
   pub some : 0 < queue.stood → 0 < queue.amount
   pub since : queue.stood ≤ now

@@ -40,7 +40,7 @@ pub(crate) fn check_limits(
     check_untold(net, asked, entries, content)
 }
 
-/// Tests that each queue has stood for as long as it can have.
+/// Tests that each queue has stood for no longer than it can have.
 fn check_stood(
     net: &Network,
     asked: Asked,
@@ -61,7 +61,7 @@ fn check_stood(
     Ok(())
 }
 
-/// Whether the queue of a link has stood for as long as it can have, where these are its queues.
+/// Whether the queue of a link has stood for no longer than it can have, where these are its queues.
 fn stood_in_time(entries: &[Entry], link: u32, queues: &[Standing]) -> bool
     requires { queues.now ≡ all_said queue_said entries.now link }
     ensures { IsTrue result ↔ StoodInTime entries.now link }
