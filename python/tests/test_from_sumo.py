@@ -19,7 +19,7 @@ from kolvunh.sumo.from_sumo import main, nodes_of, survey, survey_line
 from kolvunh.sumo.groups import Node
 from kolvunh.sumo.layout import read_places, read_tables
 from kolvunh.sumo.signals import Signals, state_at
-from kolvunh.sumo.streets import Movement, Streets, edge_of
+from kolvunh.sumo.streets import Movement, Streets
 from kolvunh.sumo.to_sumo import convert, write_routes
 
 
@@ -252,19 +252,6 @@ class NetworkTest(unittest.TestCase):
         self.assertEqual(first, back)
         came = [(self.folder / name).read_text(encoding="utf-8").count("\n") for name in ("arrivals.csv", "back/arrivals.csv")]
         self.assertEqual(*came)
-
-    def test_whom_a_crossing_meets(self) -> None:
-        """A crossing meets who comes over its edges or goes into them, and no other crossing."""
-        streets, _ = self.walks()
-        junctions = streets.junctions
-        for node in streets.programs:
-            moves = [*junctions.movements[node], *junctions.crossings[node]]
-            for crossing in junctions.crossings[node]:
-                met = {other for other in moves if junctions.cross(crossing, other)}
-                over = [edge for edge in crossing.over for edge in (edge, f"{edge}.140.00")]
-                wanted = {move for move in junctions.movements[node] if {edge_of(move.lane), edge_of(move.exit_lane)} & set(over)}
-                self.assertEqual(met, wanted)
-                self.assertTrue(all(junctions.gives_way(move, crossing) for move in met))
 
     def command(self, *words: str | Path) -> tuple[object, list[str]]:
         """The status and the lines on standard error of the command."""

@@ -4,14 +4,15 @@
 
 PLACES is a CSV with the header `kind,name,x,y`, in metres: rows `node,NAME,x,y` for each node, and `link,NAME,x,y` for the
 open end of each link that enters or leaves the network; `begin,NAME,x,y` and `end,NAME,x,y` may say by which points a link leaves a
-node and comes to one. Links between the same places by the same points are lanes of one road. With `-` in its stead the nodes stand in
-a line from west to east, in the order of the file. Lengths come from the `travel` of the links, and not from the places. Links on which
-people walk are left out, and told.
+node and comes to one, and `walk,NAME,x,y` by which point the roads come that a crossing goes over (`walk 2` and so on where it goes over
+roads of several sides). Links between the same places by the same points are lanes of one road, and so is an open link that comes to
+its node by the point of another, or leaves it so. With `-` in its stead the nodes stand in a line from west to east, in the order of the
+file. Lengths come from the `travel` of the links, and not from the places.
 
-The vehicles of ARR become DIR/routes.N.rou.xml, their turns drawn from the number N; with --at-once they stop and start at once, as
-the rules of the world have it, and from a stand only after the start-up loss. The greens of REPORT become
-DIR/report.add.xml. Crossings in SUMO's network that the file does not declare as conflicts are listed on standard error.
-Nothing here is proved.
+The vehicles and people of ARR become DIR/routes.N.rou.xml, their turns drawn from the number N; with --at-once vehicles stop and start
+at once, as the rules of the world have it, and from a stand only after the start-up loss. The greens of REPORT become
+DIR/report.add.xml. What crosses in SUMO's network, and neither is in conflict in the file nor gives way, is listed on standard error, and
+so are crossings that can't be laid out. Nothing here is proved.
 """
 
 import itertools
@@ -25,6 +26,7 @@ from xml.sax.saxutils import quoteattr
 
 from ..commands import Words, end
 from ..faults import Fault
+from .crossings import edges_at
 from .groups import WALKING
 from .layout import SPEED, Layout, read_greens, read_tables, read_places, vehicles, walkers
 from .signals import Signals
@@ -111,8 +113,9 @@ def crossing_shapes(layout, path):
                 continue
             points = [tuple(map(float, point.split(",")[:2])) for point in lanes[at].get("shape").split()]
             (x, y), (to_x, to_y) = points[0], points[-1]
-            times = metres / max(0.1, math.dist(points[0], points[-1])) / 2
-            middle, way = ((x + to_x) / 2 - offset[0], (y + to_y) / 2 - offset[1]), (to_x - x, to_y - y)
+            across = math.radians(edges_at(layout, at[0])[min(at[1])] + 90)
+            way = (to_x - x, to_y - y) if math.dist(points[0], points[-1]) > 1 else (math.sin(across), math.cos(across))
+            times, middle = metres / math.hypot(*way) / 2, ((x + to_x) / 2 - offset[0], (y + to_y) / 2 - offset[1])
             ends = ((middle[0] + by * times * way[0], middle[1] + by * times * way[1]) for by in (-1, 1))
             shapes[at] = " ".join(f"{end_x:.3f},{end_y:.3f}" for end_x, end_y in ends)
     return shapes
