@@ -25,7 +25,7 @@ use Rattle.net_simulator.specs.Senses.{link_sense, near_of, sense}
 use Rattle.net_simulator.specs.Sums.{end_of_run}
 use Rattle.net_simulator.specs.Worlds.{signs_by}
 use Rattle.net_simulator.proofs.AtNodes.{past-at-nodes}
-use Rattle.phase_plan.specs.Phases.{IsPlan, is_unmarked_at}
+use Rattle.phase_plan.specs.Phases.{IsRing, is_unmarked_at}
 use Rattle.road_net.specs.Network.{IsNetwork, entry_links}
 use Rattle.road_net.specs.declared.senses.LinkSense.{LinkSense}
 use Rattle.signal_safety.specs.Rounds.{line_before}
@@ -45,7 +45,7 @@ use Rattle.waits.proofs.Seen.{entry-of}
 use Rattle.waits.proofs.Splices.{splice-begins}
 
 module _ (net : Net) (network : IsNetwork net) (under : (ℕ → ℕ → Sign) → ℕ → ℕ → ℕ → Cumulative) (made : ℕ → ℕ → List Green) (acts : AllAct net under made (act_rounds net)) (node : ℕ) (below : node < length net.node_names) where
-  plan : IsPlan (plan_at net node)
+  plan : IsRing (plan_at net node)
   plan = plan-is net network node below
 
   abbrev line : ℕ → List Green

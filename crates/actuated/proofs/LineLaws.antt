@@ -1,7 +1,7 @@
 -- What the line from a head keeps, and how a line goes on.
 use Rattle.std.proofs.Common.{◌≡◌, ℕ, ◌+◌, ◌<◌, ◌≤◌, List, Some, length, sym, ap, subst, ◌∙◌, arith}
 use Rattle.std.proofs.lemmas.Bool.{cond_both}
-use Rattle.phase_plan.specs.Phases.{IsPlan, phase_at}
+use Rattle.phase_plan.specs.Phases.{IsRing, phase_at}
 use Rattle.phase_plan.specs.declared.Phase.{Phase}
 use Rattle.phase_plan.proofs.RingLaws.{phase-bounds}
 use Rattle.switch_rules.specs.Serving.{IsHead, earliest_end}
@@ -22,7 +22,7 @@ use Rattle.actuated.specs.ActSteps.{act_step}
 use Rattle.actuated.specs.Rounds.{IsRenewed}
 
 -- the green of a head ends within its bounds
-pub ends-between : (plan : List Phase) (head : Head) (calls : List ℕ) → IsPlan plan → IsHead plan head
+pub ends-between : (plan : List Phase) (head : Head) (calls : List ℕ) → IsRing plan → IsHead plan head
     → (earliest_end plan head ≤ held_until plan head calls) × (held_until plan head calls ≤ head.since + (phase_at plan head.phase).greatest)
 ends-between plan head calls p h =
     let times = phase-bounds plan head.phase p h.phase in
@@ -32,7 +32,7 @@ ends-between plan head calls p h =
     (λ e. (fits, omega arith))
     (λ e. (omega arith, fits))
 
-pub act-next : (plan : List Phase) (head : Head) (calls : List ℕ) (until : ℕ) → IsPlan plan → IsSoonHead plan head → until + 20 ≤ 100000 → IsNext plan head (act_line plan head calls until)
+pub act-next : (plan : List Phase) (head : Head) (calls : List ℕ) (until : ℕ) → IsRing plan → IsSoonHead plan head → until + 20 ≤ 100000 → IsNext plan head (act_line plan head calls until)
 act-next plan head calls until p h soon =
     let ends = ends-between plan head calls p h.is in
     let to : ℕ = held_until plan head calls in
@@ -43,7 +43,7 @@ act-next plan head calls until p h soon =
     }
 
 module _ (net : Net) (network : IsNetwork net) (node : ℕ) (below : node < length net.node_names) where
-  plan : IsPlan (plan_at net node)
+  plan : IsRing (plan_at net node)
   plan = plan-is net network node below
 
   pub first-is-line : IsLine (plan_at net node) (rotation_of (plan_at net node) first_head 0)

@@ -34,3 +34,13 @@ own-called = refl
 -- nothing is called: the green is held
 none-called : act_line three head (0 ∷ 0 ∷ 0 ∷ []) 20 ≡ green 0 0 30 ∷ []
 none-called = refl
+
+-- a free ring of three phases: what is called comes at once, and with no other call the phase after the present one
+abbrev free : List Phase
+free = record usual { skip = true } ∷ record usual { skip = true } ∷ record usual { skip = true } ∷ []
+
+third-called : act_line free head (0 ∷ 0 ∷ 500 ∷ []) 30 ≡ green 0 0 6 ∷ green 2 11 16 ∷ green 0 21 26 ∷ green 2 31 36 ∷ []
+third-called = refl
+
+two-called : act_line free head (0 ∷ 500 ∷ 500 ∷ []) 30 ≡ green 0 0 6 ∷ green 1 11 16 ∷ green 2 21 26 ∷ green 1 31 36 ∷ []
+two-called = refl

@@ -78,6 +78,6 @@ ShowsSigns net made run =
     (second node : ℕ) → second < end_of_run net → node < length net.node_names
     → sign_at (line_in run.timelines node) second ≡ shown_in net made second node
 
--- each queue of a phase that has a bound loses something within it
+-- each queue of a link without a walk loses something within the bound of its phase, where it has one
 abbrev pub KeepsWaits : Net → (ℕ → ℕ → ℕ) → (ℕ → ℕ → List Green) → Type 0
 KeepsWaits net arriving made = AreWaitsWithin net (actuated_bounds net) (cumulative_by net arriving made) (end_of_run net)

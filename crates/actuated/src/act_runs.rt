@@ -31,8 +31,8 @@ use std::alloc::{AllocError, Global};
 /// the world moves by the timelines up to the next one.
 ///
 /// All timelines are lawful, and the network is safe. The last timelines show the signs by which the world
-/// moved, and each queue of a phase that has a bound loses something within it. The totals are what the world shows
-/// under the last timelines, and what entered has left or is on the links.
+/// moved, and each queue of a link without a walk loses something within the bound of its phase, where it has one. The totals
+/// are what the world shows under the last timelines, and what entered has left or is on the links.
 ///
 /// `Err`: out of memory.
 ///

@@ -22,8 +22,8 @@ pub fn law_of_actuated_lines()
         (line_before (first_line net) made (act_rounds net)) }
 {}
 
-/// Under actuated control no queue waits for ever: each queue of a phase that has a bound loses something within it, where the run
-/// goes on as long, and what stands at a second leaves green by green.
+/// Under actuated control no queue of a link without a walk waits for ever: each loses something within the bound of its phase, where
+/// it has one and the run goes on as long, and what stands at a second leaves green by green.
 ///
 /// docs/RULES.md, "How long a queue can wait".
 pub fn law_of_actuated_waits()
