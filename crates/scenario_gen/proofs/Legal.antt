@@ -137,7 +137,7 @@ draft-node-by n e =
     let count = and_parts (within 2 (length n.phases) 4) _ name.1 in
     let ring = and_parts (nat_le 2 unmarked) (list_all is_draft_phase n.phases) count.1 in
     record {
-      own = record { name = name-by n.name name.0; count = within-by 2 (length n.phases) 4 count.0; ring = leb-true 2 unmarked ring.0 };
+      own = record { name = name-by n.name name.0; count = within-by 2 (length n.phases) 4 count.0; ring = inl (leb-true 2 unmarked ring.0) };
       phases = all-by is_draft_phase IsBoundedPhase draft-phase-by n.phases ring.1;
     }
 

@@ -50,7 +50,7 @@ abbrev pub phase : List Road → DraftPhase
 phase served = record { phase = usual; links = map road_name served; also = [] }
 
 abbrev pub node : ℕ → ℕ → DraftNode
-node side k = record { name = node_name k; phases = phase (phase_roads side k 0) ∷ phase (phase_roads side k 1) ∷ [] }
+node side k = record { name = node_name k; phases = phase (phase_roads side k 0) ∷ phase (phase_roads side k 1) ∷ []; free_ring = false }
 
 -- the conflicts of a node: each link of phase 0 with each of phase 1
 abbrev pub conflict : Road → Road → DraftConflict

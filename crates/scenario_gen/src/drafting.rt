@@ -93,6 +93,7 @@ fn node(alloc: Global, side: u32, roads: &[Road], k: u32) -> Result<DraftNode, A
     Ok(DraftNode {
         name: node_name(alloc, k)?,
         phases: Items::from_vec(phases),
+        free_ring: false,
     })
 }
 
