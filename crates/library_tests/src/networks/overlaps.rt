@@ -111,6 +111,7 @@ fn node(alloc: Global, also: Option<&str>) -> Result<DraftNode, AllocError> {
     Ok(DraftNode {
         name: name(alloc, "a")?,
         phases: Items::from_vec(phases),
+        free_ring: false,
     })
 }
 
