@@ -1,17 +1,19 @@
 -- The whole text: what is read is spelled so, and what is spelled so is read.
-use Rattle.std.proofs.Common.{◌≡◌, ℕ, ◌+◌, ◌<◌, ◌≤◌, List, ◌++◌, length, Ok, refl, sym, ap, ◌∙◌, length-append, arith}
+use Rattle.std.proofs.Common.{◌≡◌, ℕ, ◌+◌, ◌<◌, ◌≤◌, Bool, List, ◌++◌, length, Ok, refl, sym, ap, ◌∙◌, length-append, arith}
 use Rattle.std.specs.Prelude.{codes}
 use Rattle.std.proofs.lemmas.List.{append_cancel_left}
 use Rattle.instance_form.specs.Answers.{IsOutOfMemory}
 use Rattle.instance_form.specs.Faults.{BeginsFront, IsFaultOf}
-use Rattle.instance_form.specs.InstanceText.{line_count}
+use Rattle.instance_form.specs.InstanceText.{line_count, IsFreeWhere}
+use Rattle.phase_plan.specs.Phases.{is_free}
+use Rattle.certificate_form.specs.Answers.{IsFormText}
 use Rattle.instance_form.specs.Reading.{Fails}
 use Rattle.instance_form.specs.declared.form.FormFault.{FormFault}
 use Rattle.instance_form.specs.declared.form.FormFault.TheVariants.{Line, NoMemory}
 use Rattle.foundation.proofs.ResultLaws.{no_Err, same_Ok}
 use Rattle.schedule_meaning.specs.Instances.{Problem}
 use Rattle.schedule_meaning.specs.declared.planners.Answer.{Answer}
-use Rattle.certificate_form.specs.CertificateText.{certificate_text, HasText}
+use Rattle.certificate_form.specs.CertificateText.{certificate_text, whole_certificate, HasText}
 use Rattle.dp_certificate.specs.Certificates.{Claim}
 use Rattle.certificate_form.specs.Reading.{tail_at}
 use Rattle.certificate_form.specs.TextFaults.{IsLineFault}
@@ -23,14 +25,14 @@ use Rattle.certificate_form.proofs.TailLaws.{tail_text, tail_takes, tail_again}
 
 -- ---- the first line
 
-pub no_opening : (bytes : List ℕ) (c : Claim) → ((rest : List ℕ) → bytes ≡ codes "certificate 1\n" ++ rest → ⊥) → bytes ≡ certificate_text c → ⊥
-no_opening bytes c never e = never (problem_text c.problem ++ tail_text (length c.problem.plan) c.answer c.entries) (e ∙ certificate_is c)
+pub no_opening : (free : Bool) (bytes : List ℕ) (c : Claim) → ((rest : List ℕ) → bytes ≡ codes "certificate 1\n" ++ rest → ⊥) → bytes ≡ whole_certificate free c → ⊥
+no_opening free bytes c never e = never (problem_text free c.problem ++ tail_text (length c.problem.plan) c.answer c.entries) (e ∙ certificate_is free c)
 
 -- ---- the instance
 
 -- what follows the first line begins with an instance's text
-pub behind_opening : (bytes rest : List ℕ) (c : Claim) → bytes ≡ codes "certificate 1\n" ++ rest → bytes ≡ certificate_text c → rest ≡ problem_text c.problem ++ tail_text (length c.problem.plan) c.answer c.entries
-behind_opening bytes rest c text e = append_cancel_left (codes "certificate 1\n") rest (problem_text c.problem ++ tail_text (length c.problem.plan) c.answer c.entries) (sym text ∙ e ∙ certificate_is c)
+pub behind_opening : (free : Bool) (bytes rest : List ℕ) (c : Claim) → bytes ≡ codes "certificate 1\n" ++ rest → bytes ≡ whole_certificate free c → rest ≡ problem_text free c.problem ++ tail_text (length c.problem.plan) c.answer c.entries
+behind_opening free bytes rest c text e = append_cancel_left (codes "certificate 1\n") rest (problem_text free c.problem ++ tail_text (length c.problem.plan) c.answer c.entries) (sym text ∙ e ∙ certificate_is free c)
 
 pub front_line : (bytes rest : List ℕ) (e : FormFault) → bytes ≡ codes "certificate 1\n" ++ rest → IsFaultOf BeginsFront 2 rest e → IsLineFault bytes e
 front_line bytes rest (Line n) text fault = instance_fault n bytes rest text fault
@@ -38,54 +40,59 @@ front_line bytes rest NoMemory text fault = tt
 
 -- ---- what follows
 
-pub whole : (p : Problem) (bytes rest after : List ℕ) → bytes ≡ codes "certificate 1\n" ++ rest → rest ≡ problem_text p ++ after → bytes ≡ front_text p ++ after
-whole p bytes rest after a b = a ∙ ap (λ (y : List ℕ). codes "certificate 1\n" ++ y) b ∙ sym (front-append p after)
+pub whole : (free : Bool) (p : Problem) (bytes rest after : List ℕ) → bytes ≡ codes "certificate 1\n" ++ rest → rest ≡ problem_text free p ++ after → bytes ≡ front_text free p ++ after
+whole free p bytes rest after a b = a ∙ ap (λ (y : List ℕ). codes "certificate 1\n" ++ y) b ∙ sym (front-append free p after)
 
-pub room : (p : Problem) (bytes rest after : List ℕ) (line most : ℕ) → HasProblemText p → bytes ≡ codes "certificate 1\n" ++ rest → rest ≡ problem_text p ++ after → line ≡ 2 + line_count p.plan p.lists → length bytes < most → line + length after ≤ most
-room p bytes rest after line most fits opening text is few =
-    omega (arith, feeds_in_text p.plan p.head p.lists fits, line_feeds-le (problem_text p), ap length opening, length-append (codes "certificate 1\n") rest, ap length text, length-append (problem_text p) after, is)
+pub room : (free : Bool) (p : Problem) (bytes rest after : List ℕ) (line most : ℕ) → HasProblemText p → IsFreeWhere free p.plan → bytes ≡ codes "certificate 1\n" ++ rest → rest ≡ problem_text free p ++ after → line ≡ 2 + line_count p.plan p.lists → length bytes < most → line + length after ≤ most
+room free p bytes rest after line most fits ring opening text is few =
+    omega (arith, feeds_in_text free p.plan p.head p.lists fits ring, line_feeds-le (problem_text free p), ap length opening, length-append (codes "certificate 1\n") rest, ap length text, length-append (problem_text free p) after, is)
 
-module _ (p : Problem) (fits : HasProblemText p) (bytes after : List ℕ) (line : ℕ) (text : bytes ≡ front_text p ++ after) (is : line ≡ 2 + line_count p.plan p.lists) where
-  pub read_fits : (a : Answer) (es : List Entry) → tail_at (length p.plan) line after ≡ Ok (a, es) → (let c : Claim = record { problem = p; entries = es; answer = a } in HasText c)
-  read_fits a es given = let taken = tail_takes (length p.plan) fits.count.0 fits.count.1 line after (a, es) given in record { instance = fits; answer = taken.answer; entries = taken.entries }
-
-  pub read_found : (a : Answer) (es : List Entry) → tail_at (length p.plan) line after ≡ Ok (a, es) → (let c : Claim = record { problem = p; entries = es; answer = a } in bytes ≡ certificate_text c)
-  read_found a es given =
+module _ (free : Bool) (p : Problem) (fits : HasProblemText p) (ring : IsFreeWhere free p.plan) (bytes after : List ℕ) (line : ℕ) (text : bytes ≡ front_text free p ++ after) (is : line ≡ 2 + line_count p.plan p.lists) where
+  pub read_form : (a : Answer) (es : List Entry) → tail_at (length p.plan) line after ≡ Ok (a, es) → (let c : Claim = record { problem = p; entries = es; answer = a } in IsFormText bytes free c)
+  read_form a es given =
       let c : Claim = record { problem = p; entries = es; answer = a } in
       let taken = tail_takes (length p.plan) fits.count.0 fits.count.1 line after (a, es) given in
-      text ∙ ap (λ (y : List ℕ). front_text p ++ y) taken.spelled ∙ front-append p (tail_text (length p.plan) a es) ∙ sym (certificate_is c)
+      record {
+        fits = record { instance = fits; answer = taken.answer; entries = taken.entries };
+        ring = ring;
+        text = text ∙ ap (λ (y : List ℕ). front_text free p ++ y) taken.spelled ∙ front-append free p (tail_text (length p.plan) a es) ∙ sym (certificate_is free c);
+      }
 
-  read_again : (c : Claim) → HasText c → bytes ≡ certificate_text c → (c.problem ≡ p) × (tail_at (length p.plan) line after ≡ Ok (c.answer, c.entries))
-  read_again c c_fits e =
-      let next = behind c p after c_fits fits (sym e ∙ text) in
-      (next.problem, ap (tail_at (length p.plan) line) (sym next.tail) ∙ tail_again (length p.plan) fits.count.0 fits.count.1 line c.answer c.entries c_fits.answer next.entries)
+  read_again : (may : Bool) (c : Claim) → IsFormText bytes may c → (may ≡ free) × (c.problem ≡ p) × (tail_at (length p.plan) line after ≡ Ok (c.answer, c.entries))
+  read_again may c form =
+      let next = behind may free c p after form.fits form.ring fits ring (sym form.text ∙ text) in
+      (next.ring, next.problem, ap (tail_at (length p.plan) line) (sym next.tail) ∙ tail_again (length p.plan) fits.count.0 fits.count.1 line c.answer c.entries form.fits.answer next.entries)
 
-  pub read_only : (a : Answer) (es : List Entry) → tail_at (length p.plan) line after ≡ Ok (a, es) → (c : Claim) → HasText c → bytes ≡ certificate_text c → (let d : Claim = record { problem = p; entries = es; answer = a } in d ≡ c)
-  read_only a es given c c_fits e =
-      let again = read_again c c_fits e in
-      let same = same_Ok (a, es) (c.answer, c.entries) (sym given ∙ again.1) in
-      ap (λ (x : Problem). let r : Claim = record { problem = x; entries = es; answer = a } in r) (sym again.0)
-      ∙ ap (λ (x : Answer × List Entry). let r : Claim = record { problem = c.problem; entries = x.1; answer = x.0 } in r) same
+  pub read_only : (a : Answer) (es : List Entry) → tail_at (length p.plan) line after ≡ Ok (a, es) → (may : Bool) (c : Claim) → IsFormText bytes may c → (let d : Claim = record { problem = p; entries = es; answer = a } in (free ≡ may) × (d ≡ c))
+  read_only a es given may c form =
+      let again = read_again may c form in
+      let same = same_Ok (a, es) (c.answer, c.entries) (sym given ∙ again.2) in (
+        sym again.0,
+        ap (λ (x : Problem). let r : Claim = record { problem = x; entries = es; answer = a } in r) (sym again.1)
+            ∙ ap (λ (x : Answer × List Entry). let r : Claim = record { problem = c.problem; entries = x.1; answer = x.0 } in r) same,
+      )
 
-  pub fails_only : (e : FormFault) → Fails e (tail_at (length p.plan) line after) → (c : Claim) → HasText c → bytes ≡ certificate_text c → IsOutOfMemory e
-  fails_only (Line n) given c c_fits e = no_Err {A = Answer × List Entry} (read_again c c_fits e).1 given
-  fails_only NoMemory given c c_fits e = tt
+  pub fails_only : (e : FormFault) → Fails e (tail_at (length p.plan) line after) → (may : Bool) (c : Claim) → IsFormText bytes may c → IsOutOfMemory e
+  fails_only (Line n) given may c form = no_Err {A = Answer × List Entry} (read_again may c form).2 given
+  fails_only NoMemory given may c form = tt
 
   pub fails_line : (e : FormFault) → Fails e (tail_at (length p.plan) line after) → IsLineFault bytes e
-  fails_line (Line n) given = tail_fault p fits bytes after text line n is given
+  fails_line (Line n) given = tail_fault free p fits ring bytes after text line n is given
   fails_line NoMemory given = tt
 
 -- an instance's text is shorter than that of a certificate with it
-pub text_below : (bytes : List ℕ) (c : Claim) (most : ℕ) → bytes ≡ certificate_text c → length bytes < most → length (problem_text c.problem) < most
-text_below bytes c most e few =
+pub text_below : (free : Bool) (bytes : List ℕ) (c : Claim) (most : ℕ) → bytes ≡ whole_certificate free c → length bytes < most → length (problem_text free c.problem) < most
+text_below free bytes c most e few =
     let tail = tail_text (length c.problem.plan) c.answer c.entries in
-    omega (arith, ap length (e ∙ certificate_is c), length-append (codes "certificate 1\n") (problem_text c.problem ++ tail), length-append (problem_text c.problem) tail)
+    omega (arith, ap length (e ∙ certificate_is free c), length-append (codes "certificate 1\n") (problem_text free c.problem ++ tail), length-append (problem_text free c.problem) tail)
 
 -- no two certificates share a text
 pub one-text : (c d : Claim) → HasText c → HasText d → certificate_text c ≡ certificate_text d → c ≡ d
 one-text c d fits others e =
     let p = c.problem in
+    let free = is_free p.plan in
     let after = tail_text (length p.plan) c.answer c.entries in
     let line = 2 + line_count p.plan p.lists in
-    read_only p fits.instance (certificate_text c) after line (certificate_is c ∙ sym (front-append p after)) refl c.answer c.entries
-    (tail_again (length p.plan) fits.instance.count.0 fits.instance.count.1 line c.answer c.entries fits.answer fits.entries) d others e
+    let same = read_only free p fits.instance (λ ring. ring) (certificate_text c) after line (certificate_is free c ∙ sym (front-append free p after)) refl c.answer c.entries
+    (tail_again (length p.plan) fits.instance.count.0 fits.instance.count.1 line c.answer c.entries fits.answer fits.entries) (is_free d.problem.plan) d (record { fits = others; ring = λ ring. ring; text = e }) in
+    same.1

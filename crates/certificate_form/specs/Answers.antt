@@ -1,11 +1,12 @@
 -- What reading a certificate's text answers.
-use Rattle.std.specs.Prelude.{◌≡◌, ℕ, List}
-use Rattle.phase_plan.specs.Phases.{IsPlan, IsPlanFault}
+use Rattle.std.specs.Prelude.{◌≡◌, ℕ, Bool, List}
+use Rattle.instance_form.specs.InstanceText.{IsFreeWhere}
+use Rattle.schedule_meaning.specs.Texts.{IsPlanWhere, IsPlanFaultWhere}
 use Rattle.instance_form.specs.declared.form.FormFault.{FormFault}
 use Rattle.instance_form.specs.declared.form.FormFault.TheVariants as form
 use Rattle.schedule_meaning.specs.Faults.{IsInstanceFault}
 use Rattle.schedule_meaning.specs.Instances.{IsInstance}
-use Rattle.certificate_form.specs.CertificateText.{HasText, certificate_text}
+use Rattle.certificate_form.specs.CertificateText.{HasText, certificate_text, whole_certificate}
 use Rattle.dp_certificate.specs.Certificates.{Claim}
 use Rattle.dp_certificate.specs.Faults.{IsCertFault}
 use Rattle.certificate_form.specs.TextFaults.{IsFirstFault}
@@ -30,15 +31,21 @@ abbrev pub of_form : FormFault → CertText
 of_form (form.Line n) = Line n
 of_form form.NoMemory = NoMemory
 
--- the bytes have the form of a text, and this is what they say
+-- the bytes are the text of this
 abbrev pub IsCertificateText : List ℕ → Claim → Type 0
 IsCertificateText bytes c = HasText c × (bytes ≡ certificate_text c)
+
+-- the bytes have the form of a text, and this is what they say, and whether the ring may be free
+pub record IsFormText (bytes : List ℕ) (free : Bool) (c : Claim) : Type 0 where
+  pub fits : HasText c
+  pub ring : IsFreeWhere free c.problem.plan
+  pub text : bytes ≡ whole_certificate free c
 
 -- why bytes are no certificate's text: they have not the form of a text, and this is the first line that has not the
 -- form of its place; or else the fault of the phases; or else that of the instance; or else that of the certificate
 abbrev pub IsTextFault : List ℕ → CertText → Type 0
-IsTextFault bytes (Line n) = IsFirstFault n bytes × ((c : Claim) → ¬ IsCertificateText bytes c)
-IsTextFault bytes (Plan fault) = (c : Claim) × IsCertificateText bytes c × IsPlanFault c.problem.plan fault
-IsTextFault bytes (Instance fault) = (c : Claim) × IsCertificateText bytes c × IsPlan c.problem.plan × IsInstanceFault c.problem fault
+IsTextFault bytes (Line n) = IsFirstFault n bytes × ((free : Bool) (c : Claim) → ¬ IsFormText bytes free c)
+IsTextFault bytes (Plan fault) = (free : Bool) × (c : Claim) × IsFormText bytes free c × IsPlanFaultWhere free c.problem.plan fault
+IsTextFault bytes (Instance fault) = (free : Bool) × (c : Claim) × IsFormText bytes free c × IsPlanWhere free c.problem.plan × IsInstanceFault c.problem fault
 IsTextFault bytes (Cert fault) = (c : Claim) × IsCertificateText bytes c × IsInstance c.problem × IsCertFault c fault
 IsTextFault bytes NoMemory = Unit {0}

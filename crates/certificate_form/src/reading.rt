@@ -1,10 +1,10 @@
 //! Reading a certificate's text.
 
-ghost use Rattle.std.specs.Prelude.{◌≡◌, ◌+◌, ◌^◌, ◌<◌, ◌≤◌, length, IfErr, IfOk, MatchResult};
+ghost use Rattle.std.specs.Prelude.{◌≡◌, ◌+◌, ◌^◌, ◌<◌, ◌≤◌, length, Bool, IfErr, IfOk, MatchResult};
 ghost use Rattle.instance_form.specs.Answers as form;
 ghost use Rattle.instance_form.specs.Lines.{seen};
 ghost use Rattle.instance_form.specs.Reading.{Gives};
-ghost use Rattle.certificate_form.specs.Answers.{IsTextFault, IsOutOfMemory, claim_of_lines};
+ghost use Rattle.certificate_form.specs.Answers.{IsFormText, IsTextFault, IsOutOfMemory, claim_of_lines};
 ghost use Rattle.certificate_form.specs.CertificateText.{HasText, certificate_text};
 ghost use Rattle.dp_certificate.specs.Certificates.{Claim, IsCertificate};
 ghost use Rattle.dp_certificate.specs.Numbers.{IsShort};
@@ -15,8 +15,8 @@ use crate::lines::{entry_lines, spaced_numbers};
 use dp_certificate::{CertFault, Certificate, Entry};
 use foundation::items::Items;
 use instance_form::{Form, FormFault, read_front};
-use phase_plan::{PhasePlan, PlanFault};
-use schedule_meaning::{Answer, Instance, InstanceFault};
+use phase_plan::PlanFault;
+use schedule_meaning::{Answer, Instance, InstanceFault, plan_where};
 use std::alloc::Global;
 use text_lines::{field_u8, field_u64, literal};
 
@@ -79,7 +79,7 @@ pub fn read_certificate(alloc: Global, bytes: &[u8]) -> Result<Certificate, Cert
         answer,
         entries,
     } = read_lines(alloc, bytes)?;
-    let plan = match PhasePlan::new(form.phases) {
+    let plan = match plan_where(form.free_ring, form.phases) {
         Ok(plan) => plan,
         Err(fault) => return Err(CertText::Plan(fault)),
     };
@@ -103,10 +103,9 @@ pub fn law_of_certificates()
 /// What the lines of a certificate's text say.
 fn read_lines(alloc: Global, bytes: &[u8]) -> Result<Lines, FormFault>
     requires { length bytes.now < 2 ^ 32 }
-    ensures text { IfOk result (λ x. HasText (claim_of_lines x)) }
-    ensures ok { IfOk result (λ x. bytes.now ≡ certificate_text (claim_of_lines x)) }
-    ensures only { (c : Claim) → HasText c → bytes.now ≡ certificate_text c
-        → MatchResult result (λ x. claim_of_lines x ≡ c) form.IsOutOfMemory }
+    ensures ok { IfOk result (λ x. IsFormText bytes.now x.form.free_ring (claim_of_lines x)) }
+    ensures only { (free : Bool) (c : Claim) → IsFormText bytes.now free c
+        → MatchResult result (λ x. (x.form.free_ring ≡ free) × (claim_of_lines x ≡ c)) form.IsOutOfMemory }
     ensures first { IfErr result (IsLineFault bytes.now) }
     ensures short { IfOk result (λ x. IsShort x.answer) }
     ensures few { IfOk result (λ x. length x.entries.items < 2 ^ 32) }

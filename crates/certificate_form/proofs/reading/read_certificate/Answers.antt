@@ -4,7 +4,8 @@ use Rattle.certificate_form.proofs.WholeLaws.{text_below}
 use Rattle.certificate_form.specs.Answers.{claim_of_lines}
 use Rattle.certificate_form.proofs.reading.read_certificate.Goals as goal
 
-pub new-requires-2 : goal.new-requires-2
-new-requires-2 c =
+pub new-requires : goal.new-requires
+new-requires c =
     let form = c.in_ok-form.field-0.form in
-    lists-below-text form.phases.items form.head form.lists.items _ refl (text_below c.args.bytes.now (claim_of_lines c.in_ok-form.field-0) 4294967296 c.in_ok-form.ensures.ok c.requires)
+    lists-below-text form.free_ring form.phases.items form.head form.lists.items _ refl
+    (text_below form.free_ring c.args.bytes.now (claim_of_lines c.in_ok-form.field-0) 4294967296 c.in_ok-form.ensures.ok.text c.requires)
