@@ -3,7 +3,7 @@ use Rattle.std.proofs.Common.{rules, ◌≡◌, ℕ, List, [], ◌∷◌, true, 
 use Rattle.std.proofs.lemmas.Bool.{false≢true}
 use Rattle.std.proofs.lemmas.Fmt.{decimal_injective}
 use Rattle.std.specs.Str.{bytes_eq}
-use Rattle.command_words.specs.Calls.{Actuate, Audit, Bounds, BoundsFixed, Call, IsCall, Certify, CertifyBound, CertifyPar, Check, Compare, CompareFixed, Decide, DecideNode, Fixed, Grid, Instance, Net, Plan, Queues, Replay, Scale, Spill, Turns, Upgrade, words_of}
+use Rattle.command_words.specs.Calls.{Actuate, Audit, Bounds, BoundsFixed, Call, IsCall, Certify, CertifyBound, CertifyPar, Check, Compare, CompareFixed, Decide, DecideNode, Fixed, Grid, Instance, Net, Plan, Queues, Replay, Scale, Spill, SpillActuated, Turns, Upgrade, words_of}
 
 -- the first word
 first : List (List ℕ) → List ℕ
@@ -54,6 +54,9 @@ one_call words (Scale n a f l s) (Scale m b g k t) is other =
     let step : s ≡ t = decimal_injective s t (omega (arith, is.within.bits)) (omega (arith, other.within.bits)) (cc) in
     cc
 one_call words (Spill n a r) (Spill m b q) is other = let e = is.words_are in let d = other.words_are in cc
+one_call words (Spill n a r) (SpillActuated m b q) is other = let e = is.words_are in let d = other.words_are in absurd (cc)
+one_call words (SpillActuated n a r) (Spill m b q) is other = let e = is.words_are in let d = other.words_are in absurd (cc)
+one_call words (SpillActuated n a r) (SpillActuated m b q) is other = let e = is.words_are in let d = other.words_are in cc
 one_call words (Decide n s) (Decide m t) is other = let e = is.words_are in let d = other.words_are in cc
 one_call words (Decide n s) (DecideNode m t k) is other = let e = is.words_are in let d = other.words_are in absurd (cc)
 one_call words (DecideNode n s k) (Decide m t) is other = let e = is.words_are in let d = other.words_are in absurd (cc)

@@ -24,6 +24,7 @@ pub data Call : Type 0 where
   CompareFixed : (net arr plan : List ℕ) → Call
   Scale : (net arr : List ℕ) → (first last step : ℕ) → Call
   Spill : (net arr store : List ℕ) → Call
+  SpillActuated : (net arr store : List ℕ) → Call
   Decide : (net state : List ℕ) → Call
   DecideNode : (net state node : List ℕ) → Call
   Audit : (net arr report : List ℕ) → Call
@@ -50,6 +51,7 @@ words_of (Compare net arr) = codes "compare" ∷ net ∷ arr ∷ []
 words_of (CompareFixed net arr plan) = codes "compare" ∷ net ∷ arr ∷ plan ∷ []
 words_of (Scale net arr first last step) = codes "scale" ∷ net ∷ arr ∷ decimal first ∷ decimal last ∷ decimal step ∷ []
 words_of (Spill net arr store) = codes "spill" ∷ net ∷ arr ∷ store ∷ []
+words_of (SpillActuated net arr store) = codes "spill" ∷ net ∷ arr ∷ store ∷ codes "actuated" ∷ []
 words_of (Decide net state) = codes "decide" ∷ net ∷ state ∷ []
 words_of (DecideNode net state node) = codes "decide" ∷ net ∷ state ∷ node ∷ []
 words_of (Audit net arr report) = codes "audit" ∷ net ∷ arr ∷ report ∷ []
@@ -75,6 +77,7 @@ IsOfControllers (Compare net arr) = Unit {0}
 IsOfControllers (CompareFixed net arr plan) = Unit {0}
 IsOfControllers (Scale net arr first last step) = Unit {0}
 IsOfControllers (Spill net arr store) = Unit {0}
+IsOfControllers (SpillActuated net arr store) = Unit {0}
 IsOfControllers (Decide net state) = Unit {0}
 IsOfControllers (DecideNode net state node) = Unit {0}
 IsOfControllers _ = ⊥
@@ -111,6 +114,7 @@ call_of (command.Compare net arr) = Compare net.now arr.now
 call_of (command.CompareFixed net arr plan) = CompareFixed net.now arr.now plan.now
 call_of (command.Scale net arr first last step) = Scale net.now arr.now first last step
 call_of (command.Spill net arr store) = Spill net.now arr.now store.now
+call_of (command.SpillActuated net arr store) = SpillActuated net.now arr.now store.now
 call_of (command.Decide net state) = Decide net.now state.now
 call_of (command.DecideNode net state node) = DecideNode net.now state.now node.now
 call_of (command.Audit net arr report) = Audit net.now arr.now report.now

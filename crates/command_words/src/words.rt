@@ -95,6 +95,12 @@ pub enum Command<'a> {
         arr: &'a str,
         store: &'a str,
     },
+    /// Writes the report of the run under actuated control where each link holds so much and no more.
+    SpillActuated {
+        net: &'a str,
+        arr: &'a str,
+        store: &'a str,
+    },
     /// Writes what is decided in the round of a state.
     Decide {
         net: &'a str,
@@ -234,10 +240,7 @@ fn controllers_command<'a>(word: &str, rest: &'a [Text]) -> Option<Command<'a>>
             Some(Command::Fixed { net, arr, plan })
         }
         "compare" => comparison_of(rest),
-        "spill" => {
-            let (net, arr, store) = three_words(rest)?;
-            Some(Command::Spill { net, arr, store })
-        }
+        "spill" => spilling_of(rest),
         "decide" => decision_of(rest),
         "scale" => {
             let (net, arr, first, last, step) = two_words_and_factors(rest)?;
@@ -268,6 +271,36 @@ fn comparison_of(words: &[Text]) -> Option<Command<'_>>
             arr: arr.as_str(),
             plan: plan.as_str(),
         }),
+        _ => None,
+    }
+}
+
+// The totals of two runs where each link holds so much and no more, or the report of that under actuated control, where the
+// words are those after `spill`.
+fn spilling_of(words: &[Text]) -> Option<Command<'_>>
+    ensures some { IfSome result (λ command. IsCall (codes "spill" ∷ words.now) (call_of command)) }
+    ensures none { IfNone result ((call : Call) → ¬ IsCall (codes "spill" ∷ words.now) call) }
+{
+    match words {
+        [net, arr, store] => Some(Command::Spill {
+            net: net.as_str(),
+            arr: arr.as_str(),
+            store: store.as_str(),
+        }),
+        [net, arr, store, last] => spilling_under(net.as_str(), arr.as_str(), store.as_str(), last.as_str()),
+        _ => None,
+    }
+}
+
+// The report of the run of this network, arrivals and store under the controller that the last word names, where there is one.
+fn spilling_under<'a>(net: &'a str, arr: &'a str, store: &'a str, last: &str) -> Option<Command<'a>>
+    ensures some { IfSome result (λ command.
+        IsCall (codes "spill" ∷ net.now ∷ arr.now ∷ store.now ∷ last.now ∷ []) (call_of command)) }
+    ensures none { IfNone result ((call : Call)
+        → ¬ IsCall (codes "spill" ∷ net.now ∷ arr.now ∷ store.now ∷ last.now ∷ []) call) }
+{
+    match last {
+        "actuated" => Some(Command::SpillActuated { net, arr, store }),
         _ => None,
     }
 }
