@@ -1,6 +1,7 @@
 pub mod Agreeing
 pub mod Ample
 pub mod AmpleTotals
+mod Counting
 pub mod Course
 pub mod Discharging
 pub mod Passing

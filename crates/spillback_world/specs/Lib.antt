@@ -1,3 +1,4 @@
+pub mod Counting
 pub mod Filling
 pub mod Laws
 pub mod Steps
@@ -6,5 +7,6 @@ pub mod StoreReaders
 pub mod StoreRecords
 pub mod StoreRows
 pub mod StoreTexts
+pub mod StoredLinks
 pub mod StoredTotals
 pub mod Worlds

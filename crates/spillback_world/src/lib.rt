@@ -3,6 +3,7 @@
 #![tactic(auto)]
 
 mod amounts;
+mod counts;
 mod discharges;
 mod ends;
 mod laws;
@@ -17,6 +18,7 @@ mod store_texts;
 mod totals;
 mod worlds;
 
+pub use counts::spill_links;
 pub use laws::{law_of_ample_storage, law_of_storage, law_of_stored_lights};
 pub use lines::spill_lines;
 pub use store::Store;

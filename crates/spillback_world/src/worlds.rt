@@ -1,15 +1,17 @@
 //! The world in which a full link holds back those who want to enter it.
 
-ghost use Rattle.std.specs.Prelude.{◌≡◌, ℕ, ◌+◌, ◌≤◌, ◌<◌, IfOk, List, length, replicate, slice_index, slice_index_or};
+ghost use Rattle.std.specs.Prelude.{◌≡◌, ℕ, ◌+◌, ◌*◌, ◌≤◌, ◌<◌, IfOk, List, length, replicate, slice_index, slice_index_or};
 ghost use Rattle.net_parts.specs.Limits.{most_seconds};
 ghost use Rattle.arrivals.specs.Amounts.{AreArrivals, arriving_of};
 ghost use Rattle.control_flow.specs.declared.greens.Sign.{Sign};
 ghost use Rattle.control_flow.specs.declared.greens.Sign.TheVariants.{Dark};
 ghost use Rattle.control_flow.specs.Signs.{sign_at};
 ghost use Rattle.net_simulator.specs.LinkGreens.{is_green, lit_since};
+ghost use Rattle.net_simulator.specs.Rows.{kept_seconds};
 ghost use Rattle.net_simulator.specs.Senses.{near_on, sense};
 ghost use Rattle.net_simulator.specs.Worlds.{signs_by};
 ghost use Rattle.road_net.specs.Senses.{IsSensedOf};
+ghost use Rattle.spillback_world.specs.Counting.{CanBeCounted, counted_by};
 ghost use Rattle.spillback_world.specs.StoredTotals.{IsBalanced};
 ghost use Rattle.spillback_world.specs.Storage.{cumulative_in};
 ghost use Rattle.spillback_world.specs.Steps.{AreEmpty, HaveScratch, IsLookedAt, state_of};
@@ -25,10 +27,10 @@ use arrivals::Arrivals;
 use control_flow::greens::Sign;
 use foundation::items::Items;
 use foundation::threads::CrossesThreads;
-use net_simulator::Lights;
 use net_simulator::link_seconds::{Shown, has_walks, look, remember};
 use net_simulator::sensing::{Sight, near_amount, sense_links};
 use net_simulator::starts::{no_greens, no_signs, zeros};
+use net_simulator::{Lights, LinkTotals, rows};
 use road_net::{Network, Sensed, law_of_network};
 use std::alloc::{AllocError, Global};
 use std::marker::Model;
@@ -123,6 +125,25 @@ impl SpillWorld {
         ensures { result ≡ slice_index self.now.held link }
     {
         u64::from(self.links.held[link as usize])
+    }
+
+    /// What is counted of link `link`, by what was counted of it before the last second.
+    pub(crate) fn count(&self, link: u32, before: LinkTotals) -> LinkTotals
+        requires held { link < length self.now.held }
+        requires queues { link < length self.now.queues }
+        requires recent { link * kept_seconds + kept_seconds ≤ length self.now.recent }
+        requires second { self.now.second ≤ most_seconds }
+        requires fits { CanBeCounted before self.now link }
+        ensures { result ≡ counted_by before self.now link }
+    {
+        let links = &self.links;
+        let come = rows::at(links.recent.as_slice(), link, self.second + 127);
+        let entered = before.entered + u64::from(come);
+        LinkTotals {
+            entered,
+            left: entered - u64::from(links.held[link as usize]),
+            delay: before.delay + u64::from(links.queues[link as usize]),
+        }
     }
 
     /// What is counted of the whole network: what entered it has left it or is on its links.
