@@ -287,7 +287,12 @@ fn spilling_of(words: &[Text]) -> Option<Command<'_>>
             arr: arr.as_str(),
             store: store.as_str(),
         }),
-        [net, arr, store, last] => spilling_under(net.as_str(), arr.as_str(), store.as_str(), last.as_str()),
+        [net, arr, store, last] => spilling_under(
+            net.as_str(),
+            arr.as_str(),
+            store.as_str(),
+            last.as_str(),
+        ),
         _ => None,
     }
 }
