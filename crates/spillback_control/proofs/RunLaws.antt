@@ -1,6 +1,6 @@
 -- How the rounds of a run in a world with a store go on, and what every such run keeps.
 use Rattle.std.proofs.Common.{◌≡◌, ℕ, zero, suc, ◌+◌, ◌*◌, ◌<◌, ◌≤◌, List, length, [], sym, ap, subst, ◌∙◌, arith}
-use Rattle.std.proofs.lemmas.List.FromFn.{get_or-map-range_with_len}
+use Rattle.std.proofs.lemmas.List.FromFn.{fill_by_all, get_or-map-range_with_len}
 use Rattle.std.proofs.lemmas.Nat.{div_below}
 use Rattle.audit.specs.Audits.{AreLawful}
 use Rattle.control_flow.specs.Greens.{IsLawful}
@@ -28,7 +28,8 @@ use Rattle.spillback_world.specs.Worlds.{SpillState, Stands, IsWorldOf}
 use Rattle.spillback_world.specs.declared.totals.SpillTotals.{SpillTotals}
 use Rattle.spillback_world.proofs.Shown.{past-same, stands-under}
 use Rattle.spillback_control.specs.SpillRounds.{HaveSpilled}
-use Rattle.spillback_control.specs.SpillRuns.{IsActuatedIn, LastLinesShow, last_lines}
+use Rattle.spillback_control.specs.SpillRuns.{CountsLastLines, IsActuatedIn, IsSpillRun, LastLinesShow, last_lines}
+use Rattle.spillback_control.specs.declared.records.SpillRun.{SpillRun}
 use Rattle.arrivals.specs.Amounts.{Amounts, AreArrivals, arriving_of}
 use Rattle.control_flow.specs.declared.greens.Sign.{Sign}
 
@@ -67,7 +68,7 @@ pub spilled-world : (net : Net) (arrivals : Amounts) (store : ℕ → ℕ) (r : 
 spilled-world net arrivals store r lines w enter a = record { arrivals = arrivals; store = store; lines = line_in lines; enter = enter; stands = a.stands }
 
 -- what is counted when all rounds are over
-pub ended : (net : Net) → IsNetwork net → (arriving : ℕ → ℕ → ℕ) (store : ℕ → ℕ) (lines : List (List Green)) (w : SpillState) (t : SpillTotals) → HaveSpilled net arriving store (act_rounds net) lines w → t ≡ w.totals → IsActuatedIn net arriving store t
+abbrev pub ended : (net : Net) → IsNetwork net → (arriving : ℕ → ℕ → ℕ) (store : ℕ → ℕ) (lines : List (List Green)) (w : SpillState) (t : SpillTotals) → HaveSpilled net arriving store (act_rounds net) lines w → t ≡ w.totals → IsActuatedIn net arriving store t
 ended net network arriving store lines w t a is =
     let whole = (act-rounds net network).whole in
     record {
@@ -77,6 +78,19 @@ ended net network arriving store lines w t a is =
           is ∙ a.stands.totals ∙ ap (λ s. stored_totals net arriving (cumulative_in net arriving store (signs_by (line_in lines)) s) s) (a.second ∙ whole)
           ∙ ap (λ p. stored_totals net arriving p (end_of_run net)) (past-same net arriving store (signs_by (line_in lines)) (shown_in net a.acted.made) (end_of_run net) (λ x n less. a.acted.shown x n (omega (arith, less, whole))));
     }
+
+-- the record of it
+module _ (net : Net) (network : IsNetwork net) (arriving : ℕ → ℕ → ℕ) (store : ℕ → ℕ) (w : SpillState) (run : SpillRun) (a : HaveSpilled net arriving store (act_rounds net) run.timelines w) (all : run.totals ≡ w.totals) where
+  pub recorded : IsSpillRun net arriving store run
+  recorded = record {
+    by = ended net network arriving store run.timelines w run.totals a all;
+    lines = fill_by_all (line_before (first_line net) a.acted.made (act_rounds net)) run.timelines (length net.node_names) [] a.acted.count a.acted.are;
+  }
+
+  pub counted : CountsLastLines net arriving store run
+  counted =
+      let whole = (act-rounds net network).whole in
+      all ∙ a.stands.totals ∙ ap (λ s. stored_totals net arriving (cumulative_in net arriving store (signs_by (line_in run.timelines)) s) s) (a.second ∙ whole)
 
 -- ---- what every run keeps
 
@@ -105,3 +119,11 @@ module _ (net : Net) (network : IsNetwork net) (arriving : ℕ → ℕ → ℕ) 
   last-show second n before below =
       ap (λ (l : List Green). sign_at l second) (last-is n below)
       ∙ shows-every net (act_step net) (act-rounds net network).some (line_before (first_line net) is.made) (act_rounds net) keep (act_rounds net) (omega arith) second n below (div_below second (act_step net) (act_rounds net) (act-rounds net network).some (in-rounds second before))
+
+-- and its record
+module _ (net : Net) (network : IsNetwork net) (arriving : ℕ → ℕ → ℕ) (store : ℕ → ℕ) (run : SpillRun) (is : IsSpillRun net arriving store run) where
+  pub record-lawful : AreLawful net run.timelines
+  record-lawful = subst (AreLawful net) (sym is.lines) (last-lawful net network arriving store run.totals is.by)
+
+  pub record-safe : IsSafe net (line_in run.timelines)
+  record-safe = safe net network (line_in run.timelines) record-lawful

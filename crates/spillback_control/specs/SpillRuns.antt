@@ -7,11 +7,12 @@ use Rattle.control_flow.specs.Signs.{sign_at}
 use Rattle.control_flow.specs.declared.greens.Green.{Green}
 use Rattle.net_parts.specs.Numbers.{Net}
 use Rattle.net_simulator.specs.Sums.{end_of_run}
-use Rattle.net_simulator.specs.Worlds.{line_in}
+use Rattle.net_simulator.specs.Worlds.{line_in, signs_by}
 use Rattle.signal_safety.specs.Rounds.{line_before}
 use Rattle.spillback_world.specs.StoredTotals.{stored_totals}
 use Rattle.spillback_world.specs.Storage.{cumulative_in}
 use Rattle.spillback_world.specs.declared.totals.SpillTotals.{SpillTotals}
+use Rattle.spillback_control.specs.declared.records.SpillRun.{SpillRun}
 
 -- Below, `made round node` is the line of a node in a round. What is counted in the run, where `arriving second link` comes from
 -- outside and `store link` is how much a link can hold: in each round each node makes its next line by what it senses of the world
@@ -30,3 +31,13 @@ abbrev pub LastLinesShow : Net → (ℕ → ℕ → List Green) → Type 0
 LastLinesShow net made =
     (second node : ℕ) → second < end_of_run net → node < length net.node_names
     → sign_at (line_in (last_lines net made) node) second ≡ shown_in net made second node
+
+-- The record of a run: what is counted in it, and its last lines.
+pub record IsSpillRun (net : Net) (arriving : ℕ → ℕ → ℕ) (store : ℕ → ℕ) (run : SpillRun) : Type 0 where
+  pub by : IsActuatedIn net arriving store run.totals
+  pub lines : run.timelines ≡ last_lines net by.made
+
+-- what it counts in all is what that world counts under its last lines
+abbrev pub CountsLastLines : Net → (ℕ → ℕ → ℕ) → (ℕ → ℕ) → SpillRun → Type 0
+CountsLastLines net arriving store run =
+    run.totals ≡ stored_totals net arriving (cumulative_in net arriving store (signs_by (line_in run.timelines)) (end_of_run net)) (end_of_run net)

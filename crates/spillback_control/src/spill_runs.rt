@@ -7,14 +7,16 @@ ghost use Rattle.audit.specs.Audits.{AreLawful};
 ghost use Rattle.net_simulator.specs.Worlds.{line_in};
 ghost use Rattle.signal_safety.specs.Safe.{IsSafe};
 ghost use Rattle.spillback_control.specs.SpillRounds.{HaveSpilled};
-ghost use Rattle.spillback_control.specs.SpillRuns.{IsActuatedIn, LastLinesShow, last_lines};
+ghost use Rattle.spillback_control.specs.SpillRuns.{CountsLastLines, IsActuatedIn, IsSpillRun, LastLinesShow, last_lines};
 ghost use Rattle.spillback_world.specs.StoredTotals.{IsBalanced};
 ghost use Rattle.spillback_world.specs.declared.totals.SpillTotals as spec;
 
+use crate::records::SpillRun;
 use crate::sensing::sense_near;
 use actuated::{act_rounds, act_step, first_lines, renew_lines};
 use arrivals::Arrivals;
 use control_flow::greens::Timeline;
+use foundation::items::Items;
 use net_simulator::Lines;
 use net_simulator::starts::zeros;
 use road_net::{Network, law_of_network};
@@ -49,10 +51,43 @@ pub fn spill_actuated(
     ensures whole { IfOk result IsBalanced }
 {
     law_of_network(net);
+    let run = spill_run(alloc, net, arrivals, store)?;
+    Ok(run.totals)
+}
+
+/// The same run, with all that it leaves: its last timelines too.
+///
+/// They are lawful, and the network is safe under them; they show the signs by which that world moved, and what is counted in all
+/// is what that world counts under them.
+///
+/// `Err`: out of memory.
+///
+/// docs/RULES.md, "Storage".
+pub fn spill_run(
+    alloc: Global,
+    net: &Network,
+    arrivals: &Arrivals,
+    store: &Store,
+) -> Result<SpillRun, AllocError>
+    requires arrivals { AreArrivals net.now arrivals.now }
+    requires store { length store.now ≡ length net.now.link_names }
+    ensures run { IfOk result (IsSpillRun net.now (arriving_of arrivals.now) (slice_index store.now)) }
+    ensures lines { IfOk result (λ run. length run.timelines ≡ length net.now.node_names) }
+    ensures lawful { IfOk result (λ run. AreLawful net.now run.timelines) }
+    ensures safe { IfOk result (λ run. IsSafe net.now (line_in run.timelines)) }
+    ensures signs { IfOk result (λ run. (is : IsSpillRun net.now (arriving_of arrivals.now) (slice_index store.now) run)
+        → LastLinesShow net.now is.by.made) }
+    ensures counts { IfOk result (CountsLastLines net.now (arriving_of arrivals.now) (slice_index store.now)) }
+    ensures whole { IfOk result (λ run. IsBalanced run.totals) }
+{
+    law_of_network(net);
     let mut lines = first_lines(alloc, net)?;
     let mut world = SpillWorld::new(alloc, net)?;
     play_rounds(alloc, net, arrivals, store, &mut lines, &mut world)?;
-    Ok(world.totals())
+    Ok(SpillRun {
+        timelines: Items::from_vec(lines),
+        totals: world.totals(),
+    })
 }
 
 /// In a world with a store a network has one run under actuated control for what arrives at it: what is counted in two of
