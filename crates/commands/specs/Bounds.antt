@@ -1,8 +1,9 @@
 -- The text of how long queues can wait.
-use Rattle.std.specs.Prelude.{ℕ, List, [], ◌∷◌, Result, Ok, Err, codes, length, map}
+use Rattle.std.specs.Prelude.{ℕ, List, [], ◌∷◌, Option, Some, None, Result, Ok, Err, codes, length, map}
 use Rattle.std.specs.Fmt.{decimal}
 use Rattle.std.specs.List.{flat_map, range_with_len}
 use Rattle.fixed_plans.specs.FixedBounds.{fixed_bounds}
+use Rattle.fixed_plans.specs.Reds.{fixed_red}
 use Rattle.fixed_plans.specs.declared.rows.FixedRow.{FixedRow}
 use Rattle.net_parts.specs.Numbers.{Net}
 use Rattle.net_parts.specs.Outline.{node_name_at, plan_at}
@@ -36,18 +37,23 @@ bounds_text net = records_text (header ∷ flat_map (bound_records net) (range_w
 
 -- ---- with a fixed plan
 
--- the record of the bounds of a phase, with one field more: that under a fixed plan
-abbrev pub fixed_record : Net → PhaseBounds → Result ℕ NoBound → List (List ℕ)
-fixed_record net bounds fixed =
-    node_name_at net bounds.node ∷ decimal bounds.phase ∷ bound_field bounds.planned ∷ bound_field bounds.actuated ∷ bound_field fixed ∷ []
+-- a field: how long each red of a phase is under a fixed plan, or that the phase has no row
+abbrev pub red_field : Option ℕ → List ℕ
+red_field (Some seconds) = decimal seconds
+red_field None = codes "marked"
+
+-- the record of the bounds of a phase, with two fields more: the bound under a fixed plan, and how long its reds are under that
+abbrev pub fixed_record : Net → PhaseBounds → Result ℕ NoBound → Option ℕ → List (List ℕ)
+fixed_record net bounds fixed red =
+    node_name_at net bounds.node ∷ decimal bounds.phase ∷ bound_field bounds.planned ∷ bound_field bounds.actuated ∷ bound_field fixed ∷ red_field red ∷ []
 
 -- the records of the bounds of a node's phases
 abbrev pub fixed_records : Net → List FixedRow → ℕ → List (List (List ℕ))
-fixed_records net rows node = map (λ k. fixed_record net (phase_bounds net node k) (fixed_bounds net rows node k)) (range_with_len 0 (length (plan_at net node)))
+fixed_records net rows node = map (λ k. fixed_record net (phase_bounds net node k) (fixed_bounds net rows node k) (fixed_red net rows node k)) (range_with_len 0 (length (plan_at net node)))
 
 -- the header of this text
 abbrev pub fixed_header : List (List ℕ)
-fixed_header = codes "node" ∷ codes "phase" ∷ codes "planned" ∷ codes "actuated" ∷ codes "fixed" ∷ []
+fixed_header = codes "node" ∷ codes "phase" ∷ codes "planned" ∷ codes "actuated" ∷ codes "fixed" ∷ codes "red" ∷ []
 
 -- the text: a record for each phase of each node, in the order of the network's file
 abbrev pub fixed_bounds_text : Net → List FixedRow → List ℕ
