@@ -82,3 +82,15 @@ pub(crate) fn bound_field(bound: Result<u32, NoBound>) -> Line
     }
     field
 }
+
+/// The length of a red as a field: its seconds, or that the phase has no row.
+pub(crate) fn red_field(red: Option<u32>) -> Line
+    ensures { result ≡ bounds.red_field red }
+{
+    let mut field = Line::new();
+    match red {
+        Some(seconds) => field.put_number(u64::from(seconds)),
+        None => field.put_word(b"marked"),
+    }
+    field
+}
