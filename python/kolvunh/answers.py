@@ -82,13 +82,14 @@ class ForecastRow:
 @dataclass(frozen=True, slots=True)
 class WaitBounds:
     """Within how many seconds a queue of a phase loses something under plans, under actuated control, and under the fixed plan that was
-    given, or the word why there is no bound."""
+    given, or the word why there is no bound; and how many seconds each red of the phase is under that plan, or `marked` without a row."""
 
     node: str
     phase: int
     planned: int | str
     actuated: int | str
     fixed: int | str | None = None
+    red: int | str | None = None
 
 
 @dataclass(frozen=True, slots=True)

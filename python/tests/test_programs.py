@@ -79,8 +79,8 @@ class ProgramsTest(FilesTest):
         self.assertEqual(found["bounds"][3], WaitBounds("b", 1, 93, 43))
         found = self.tables("bounds", "node,phase,planned,actuated\na,1,short,short\n")
         self.assertEqual(found["bounds"], [WaitBounds("a", 1, "short", "short")])
-        found = self.tables("bounds", "node,phase,planned,actuated,fixed\na,2,marked,89,84\n")
-        self.assertEqual(found["bounds"], [WaitBounds("a", 2, "marked", 89, 84)])
+        found = self.tables("bounds", "node,phase,planned,actuated,fixed,red\na,2,marked,89,84,61\n")
+        self.assertEqual(found["bounds"], [WaitBounds("a", 2, "marked", 89, 84, 61)])
 
     def test_refusals(self):
         wrong = self.file(worked.NETWORK.replace("share = 500 }, {", "share = 400 }, {"), "net.toml")
