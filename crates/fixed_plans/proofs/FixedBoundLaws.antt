@@ -1,5 +1,5 @@
 -- What the row of a phase says of its bound.
-use Rattle.std.proofs.Common.{◌≡◌, ℕ, ◌+◌, cond, eqb, ltb, List, Option, None, Some, Result, Ok, Err, find, sym, ap, ◌∙◌}
+use Rattle.std.proofs.Common.{◌≡◌, ℕ, ◌+◌, cond, eqb, ltb, List, None, Some, Result, Ok, Err, find, sym, ap, ◌∙◌}
 use Rattle.fixed_plans.specs.FixedBounds.{cycle_bound, row_bound}
 use Rattle.fixed_plans.specs.Lines.{cycle_length}
 use Rattle.fixed_plans.specs.declared.rows.FixedRow.{FixedRow}

@@ -1,5 +1,5 @@
 -- In the timeline of a cycle each red of a phase is the cycle less its green.
-use Rattle.std.proofs.Common.{◌≡◌, ℕ, zero, suc, ◌+◌, ◌-◌, ◌*◌, ◌/◌, ◌%◌, ◌<◌, ◌≤◌, ◌⊎◌, Bool, true, false, cond, eqb, List, [], ◌∷◌, length, get_or, map, take, Option, Some, None, filter_map, find, sum_by, refl, sym, ap, subst, ◌∙◌, inl, inr, arith, eqb-true, div-add-mod', suc-mul, zero-add}
+use Rattle.std.proofs.Common.{◌≡◌, ℕ, zero, suc, ◌+◌, ◌-◌, ◌*◌, ◌/◌, ◌%◌, ◌<◌, ◌≤◌, cond, eqb, List, [], ◌∷◌, length, take, Option, Some, None, filter_map, find, sum_by, refl, sym, ap, ◌∙◌, inl, inr, arith, eqb-true, div-add-mod', suc-mul, zero-add}
 use Rattle.std.specs.List.{cons_option, range_with_len}
 use Rattle.std.specs.Option.{option_map}
 use Rattle.std.proofs.lemmas.Bool.{cases_Bool, cases_lt}
@@ -17,11 +17,11 @@ use Rattle.road_net.specs.Network.{IsNetwork}
 use Rattle.signal_safety.proofs.Lines.{plan-is}
 use Rattle.fixed_plans.specs.Cycles.{IsCycle, IsCycleFrom}
 use Rattle.fixed_plans.specs.Lines.{beginning, cycle_length, cycle_line, cycle_second, fixed_line, green_from, green_of, offset_of, rows_of, span}
-use Rattle.fixed_plans.specs.Reds.{AreReds, BeginsAt, HasReds, cycle_red, fixed_red}
+use Rattle.fixed_plans.specs.Reds.{AreReds, HasReds, cycle_red, fixed_red}
 use Rattle.fixed_plans.specs.Rows.{IsFixedPlan}
 use Rattle.fixed_plans.specs.declared.rows.FixedRow.{FixedRow}
-use Rattle.fixed_plans.proofs.CycleGreens.{IsPlaced, place-of}
-use Rattle.fixed_plans.proofs.CycleLaws.{no_row, row_in}
+use Rattle.fixed_plans.proofs.CycleGreens.{place-of}
+use Rattle.fixed_plans.proofs.CycleLaws.{row_in}
 use Rattle.fixed_plans.proofs.FixedWaits.{IsFound, found}
 use Rattle.fixed_plans.proofs.LineLaws.{green-some, own-cycle, span-most}
 

@@ -1,7 +1,7 @@
 -- The records of a fixed plan, one after another, and the first at fault.
 use Rattle.std.proofs.Common.{◌≡◌, ◌≢◌, ℕ, ◌<◌, ◌≤◌, List, [], ◌∷◌, ◌++◌, length, Option, Some, None, IfSome, IfErr, OnOk, Result, Ok, Err, refl, sym, ap, ◌∙◌, subst, inl, inr, arith}
 use Rattle.std.proofs.lemmas.Option.{same_Some, none-some}
-use Rattle.foundation.specs.Options.{each, ◌>>=◌}
+use Rattle.foundation.specs.Options.{◌>>=◌}
 use Rattle.foundation.proofs.EachLaws.{each-length, each-push}
 use Rattle.foundation.proofs.OptionLaws.{and-at, and-some, bind-some}
 use Rattle.net_parts.specs.Numbers.{Net, number_of}

@@ -1,4 +1,4 @@
-use Rattle.std.proofs.Common.{◌≡◌, ℕ, eqb, find, option_copied, sym, ap, ◌∙◌}
+use Rattle.std.proofs.Common.{ℕ, eqb, find, option_copied, sym, ap, ◌∙◌}
 use Rattle.fixed_plans.specs.declared.rows.FixedRow.{FixedRow}
 use Rattle.fixed_plans.proofs.FixedBoundLaws.{bound-some}
 use Rattle.fixed_plans.proofs.bounds.cycle_bound.Goals as goal
