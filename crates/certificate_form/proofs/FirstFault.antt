@@ -114,6 +114,10 @@ claim_fits : (p : Problem) (a : Answer) (es : List Entry) → HasProblemText p �
 unfolding claim_of
 claim_fits p a es fits small all = record { instance = fits; answer = small; entries = all }
 
+claim_ring : (free : Bool) (p : Problem) (a : Answer) (es : List Entry) → IsFreeWhere free p.plan → IsFreeWhere free (claim_of p a es).problem.plan
+unfolding claim_of
+claim_ring free p a es ring = ring
+
 begins_none : BeginsCertificate []
 unfolding claim_of
 begins_none = record {
@@ -211,10 +215,9 @@ module _ (free : Bool) (p : Problem) (fits : HasProblemText p) (ring : IsFreeWhe
   many = fits.count.1
 
   answer_fault : ((a : Answer) (u : List ℕ) → IsWritableAnswer a → rest ≡ answer_line a ++ u → ⊥) → IsFirstFault (1 + line_feeds (front_text free p)) bytes
-  unfolding claim_of
   answer_fault never =
       fault_here bytes (front_text free p) rest text
-      (record { free = free; claim = claim_of p NoPlan []; rest = tail_text (length p.plan) NoPlan []; fits = claim_fits p NoPlan [] fits tt (All-nil (IsWritableEntry (length p.plan))); ring = ring; text = claim_text free p NoPlan [] })
+      (record { free = free; claim = claim_of p NoPlan []; rest = tail_text (length p.plan) NoPlan []; fits = claim_fits p NoPlan [] fits tt (All-nil (IsWritableEntry (length p.plan))); ring = claim_ring free p NoPlan [] ring; text = claim_text free p NoPlan [] })
       (λ mid g.
       let next = behind g.free free g.claim p (mid ++ g.rest) g.fits g.ring fits ring (g.text ∙ append_assoc (front_text free p) mid g.rest) in
       record {
@@ -251,7 +254,6 @@ module _ (free : Bool) (p : Problem) (fits : HasProblemText p) (ring : IsFreeWhe
 
   entry_fault : (a : Answer) (es : List Entry) (R : List ℕ) → IsWritableAnswer a → AllByRecursion (IsWritableEntry (length p.plan)) es → rest ≡ answer_line a ++ (flat_map (entry_line (length p.plan)) es ++ R)
       → entry_line_at (length p.plan) R ≡ None → literal_at (codes "end\n") R ≡ None → IsFirstFault (1 + line_feeds (front_text free p ++ (answer_line a ++ flat_map (entry_line (length p.plan)) es))) bytes
-  unfolding claim_of
   entry_fault a es R small es_fit spelled no_entry_there no_end_there =
       let lines = flat_map (entry_line (length p.plan)) es in
       let F = answer_line a ++ lines in
@@ -262,7 +264,7 @@ module _ (free : Bool) (p : Problem) (fits : HasProblemText p) (ring : IsFreeWhe
         claim = claim_of p a es;
         rest = codes "end\n";
         fits = claim_fits p a es fits small all;
-        ring = ring;
+        ring = claim_ring free p a es ring;
         text = claim_text free p a es ∙ ap (λ (y : List ℕ). front_text free p ++ y) (sym (append_assoc (answer_line a) lines (codes "end\n"))) ∙ sym (append_assoc (front_text free p) F (codes "end\n"));
       })
       (λ mid g.
@@ -273,7 +275,6 @@ module _ (free : Bool) (p : Problem) (fits : HasProblemText p) (ring : IsFreeWhe
 
   trailing_fault : (a : Answer) (es : List Entry) (R : List ℕ) → IsWritableAnswer a → AllByRecursion (IsWritableEntry (length p.plan)) es → rest ≡ tail_text (length p.plan) a es ++ R
       → IsFirstFault (1 + line_feeds (front_text free p ++ tail_text (length p.plan) a es)) bytes
-  unfolding claim_of
   trailing_fault a es R small es_fit spelled =
       let tail = tail_text (length p.plan) a es in
       let F = front_text free p ++ tail in
@@ -283,7 +284,7 @@ module _ (free : Bool) (p : Problem) (fits : HasProblemText p) (ring : IsFreeWhe
         rest = R;
         parts = spread_out tail R spelled;
         number = refl;
-        begins = record { free = free; claim = claim_of p a es; rest = []; fits = claim_fits p a es fits small all; ring = ring; text = claim_text free p a es ∙ sym (append-nil F) };
+        begins = record { free = free; claim = claim_of p a es; rest = []; fits = claim_fits p a es fits small all; ring = claim_ring free p a es ring; text = claim_text free p a es ∙ sym (append-nil F) };
         ends = λ longer more e feeds g.
             let q = next_line F R longer more (sym (spread_out tail R spelled) ∙ e) (omega (arith, feeds)) in
             let h : BeginsCertificate ((front_text free p ++ tail) ++ q.0) = subst BeginsCertificate q.1 g in
