@@ -59,7 +59,10 @@ class Layout:
         self.places, self.edge_of, self.edges = places or places_in_line(network), {}, {}
         for link in sorted(network["link"], key=lambda link: (-("from" in link and "to" in link), -link["travel"])):
             self._lay(link)
+        # In the order of the file, in which SUMO is given them
+        self.edges = {name: self.edges[name] for name in (self.edge_of[link] for link in self.links)}
         for edge in self.edges.values():
+            edge.lanes = {link: [] for link in self.links if link in edge.lanes}
             self._number_lanes(edge)
         self.crossings = {walk: crossings_of(self, walk) for walk in self.walks}
         self.on_foot, self.kept = {}, {}
