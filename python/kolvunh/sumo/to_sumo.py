@@ -240,10 +240,9 @@ def who_gives_way(signals):
             for link in signals.links_by(move):
                 moves[link].append(move)
         for one, other in itertools.permutations(moves, 2):
-            yields = other in links[one].get("yields", [])
-            if yields or (frozenset((one, other)) in signals.layout.declared and one not in links[other].get("yields", [])):
-                mutual = yields and one in links[other].get("yields", [])
-                for pair in to_prohibit(signals.junctions, moves[one], moves[other], yields, mutual):
+            yields, back = other in links[one].get("yields", []), one in links[other].get("yields", [])
+            if yields or (not back and one < other and frozenset((one, other)) in signals.layout.declared):
+                for pair in to_prohibit(signals.junctions, moves[one], moves[other], yields, yields and back):
                     pairs = [tuple(f"{edge_of(move.lane)}->{edge_of(move.exit_lane)}" for move in of) for of in pair]
                     found |= dict.fromkeys([of for of in pairs if of[::-1] not in found][:1])
     return list(found)
