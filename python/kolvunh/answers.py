@@ -124,7 +124,7 @@ def scaled_totals(text: TextIO) -> dict[str, list[Any]]:
 
 
 def store_totals(text: TextIO) -> dict[str, list[Any]]:
-    """Of `spill`: a row for each controller."""
+    """Of `spill` without `actuated`: a row for each controller."""
     return {"totals": [StoreTotals(name, *map(int, numbers)) for name, *numbers in map(str.split, text)]}
 
 

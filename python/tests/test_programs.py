@@ -48,6 +48,12 @@ class ProgramsTest(FilesTest):
         with self.assertRaisesRegex(Fault, "`turns` has no table `queues`: it has steps, plans, greens, links, totals"):
             report.table("queues")
 
+    def test_a_report_of_a_spill_run(self):
+        text = block("Totals with a store")
+        report = run(["spill", self.file(text), "arrivals.csv", "store.csv", "actuated"])
+        self.assertEqual((report.text, report.records.totals), (text, Totals(1000, 0, 1000, 9100)))
+        self.assertEqual(report.table("greens")[1], Green("a", 1, 15, 45))
+
     def test_queues(self):
         self.assertEqual(run(["queues", self.file(worked.QUEUES)]).queues.most[0], Most("sa", 1000, 11))
 

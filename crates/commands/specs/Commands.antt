@@ -21,7 +21,7 @@ use Rattle.net_simulator.specs.Worlds.{line_in}
 use Rattle.queue_series.specs.Series.{IsSeries}
 use Rattle.net_file.specs.Upgrade.{IsUpgraded}
 use Rattle.signal_safety.specs.Safe.{IsSafe}
-use Rattle.command_words.specs.Calls.{Actuate, Audit, Bounds, BoundsFixed, Call, Certify, CertifyBound, CertifyPar, Check, Compare, CompareFixed, Decide, DecideNode, Fixed, Grid, Instance, Net, Plan, Queues, Replay, Scale, Spill, Turns, Upgrade}
+use Rattle.command_words.specs.Calls.{Actuate, Audit, Bounds, BoundsFixed, Call, Certify, CertifyBound, CertifyPar, Check, Compare, CompareFixed, Decide, DecideNode, Fixed, Grid, Instance, Net, Plan, Queues, Replay, Scale, Spill, SpillActuated, Turns, Upgrade}
 use Rattle.commands.specs.Answers.{answer_text}
 use Rattle.commands.specs.Bounds.{bounds_text, fixed_bounds_text}
 use Rattle.commands.specs.Controllers.{BringTooMuch, IsActuatedReport, IsComparison, IsComparisonWith, IsFixedReport, IsScaleTable, factors}
@@ -29,7 +29,7 @@ use Rattle.commands.specs.Headline.{Headline, IsGridSummary, IsPlannedText, Told
 use Rattle.commands.specs.Kinds.{ArrivalsText, CertificateText, HistoryText, InstanceText, IsCertificateText, NetworkText, PlanText, SheetText, StateText, StoreText, node_state_of}
 use Rattle.commands.specs.Limits.{most_bytes}
 use Rattle.commands.specs.Rounds.{IsDecisionText, IsNodeDecisionText}
-use Rattle.commands.specs.Storages.{IsSpillTable}
+use Rattle.commands.specs.Storages.{IsSpillReport, IsSpillTable}
 use Rattle.commands.specs.Texts.{AllSaid, Next, NoMore, Texts, three_texts, two_texts}
 use Rattle.commands.specs.Verdicts.{accepted_line, rejected_line, unclean_line}
 use Rattle.commands.specs.declared.refusals.Named.{Named}
@@ -52,6 +52,7 @@ texts_of (Compare net arr) = two_texts ArrivalsText net arr
 texts_of (CompareFixed net arr plan) = three_texts PlanText net arr plan
 texts_of (Scale net arr first last step) = two_texts ArrivalsText net arr
 texts_of (Spill net arr store) = three_texts StoreText net arr store
+texts_of (SpillActuated net arr store) = three_texts StoreText net arr store
 texts_of (Decide net state) = two_texts StateText net state
 texts_of (DecideNode net state node) = two_texts (node_state_of node) net state
 texts_of (Audit net arr report) = three_texts SheetText net arr report
@@ -93,6 +94,7 @@ IsTextOf (Compare net arr) said bytes = IsComparison said.0 said.1.0 bytes
 IsTextOf (CompareFixed net arr plan) said bytes = IsComparisonWith said.0 said.1.0 said.1.1.0 bytes
 IsTextOf (Scale net arr first last step) said bytes = IsScaleTable said.0 said.1.0 first last step bytes
 IsTextOf (Spill net arr store) said bytes = IsSpillTable said.0 said.1.0 said.1.1.0 bytes
+IsTextOf (SpillActuated net arr store) said bytes = IsSpillReport said.0 said.1.0 said.1.1.0 bytes
 IsTextOf (Decide net state) said bytes = IsDecisionText said.0 said.1.0 bytes
 IsTextOf (DecideNode net state node) said bytes = IsNodeDecisionText said.0 said.1.0 node bytes
 IsTextOf (Audit net arr report) said bytes =

@@ -1,6 +1,6 @@
 //! The commands that run a network under other controllers than the planners, or under several: the report of the run under actuated
 //! control, and that of a fixed plan; what two or three controllers come to, also for arrivals scaled by several factors, and where
-//! links hold so much and no more; and the decision of a round from a state of it.
+//! links hold so much and no more; the report of the run under actuated control there; and the decision of a round from a state of it.
 #![tactic(auto)]
 
 mod actuate;
@@ -10,6 +10,7 @@ mod decide;
 mod fixed;
 mod scale;
 mod spill;
+mod spill_report;
 
 pub use actuate::actuate_job;
 pub use compare::compare_job;
@@ -18,3 +19,4 @@ pub use decide::{decide_job, decide_node_job};
 pub use fixed::fixed_job;
 pub use scale::scale_job;
 pub use spill::spill_job;
+pub use spill_report::spill_report_job;

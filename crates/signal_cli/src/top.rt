@@ -11,7 +11,7 @@ use command_words::{Command, command_of};
 use commands::{Refusal, Status, refuse};
 use controller_jobs::{
     actuate_job, compare_fixed_job, compare_job, decide_job, decide_node_job, fixed_job, scale_job,
-    spill_job,
+    spill_job, spill_report_job,
 };
 use foundation::text::Text;
 use network_jobs::{
@@ -94,6 +94,7 @@ fn run<R: Threads + Wait + Sync, S: Shelf, O: Sink, E: Sink, G: Gate + Sync>(
         | Command::CompareFixed { .. }
         | Command::Scale { .. }
         | Command::Spill { .. }
+        | Command::SpillActuated { .. }
         | Command::Decide { .. }
         | Command::DecideNode { .. } => run_controllers(alloc, command, shelf, out, err),
         Command::Audit { net, arr, report } => {
@@ -142,6 +143,9 @@ fn run_controllers<S: Shelf, O: Sink, E: Sink>(
             step,
         } => scale_job(alloc, net, arr, first, last, step, shelf, out, err),
         Command::Spill { net, arr, store } => spill_job(alloc, net, arr, store, shelf, out, err),
+        Command::SpillActuated { net, arr, store } => {
+            spill_report_job(alloc, net, arr, store, shelf, out, err)
+        }
         Command::Decide { net, state } => decide_job(alloc, net, state, shelf, out, err),
         Command::DecideNode { net, state, node } => {
             decide_node_job(alloc, net, state, node, shelf, out, err)

@@ -24,7 +24,7 @@ FORMS: dict[str, tuple[str, ...]] = {
     "fixed": ("NET ARR PLAN",),
     "compare": ("NET ARR", "NET ARR PLAN"),
     "scale": ("NET ARR FROM TO STEP",),
-    "spill": ("NET ARR STORE",),
+    "spill": ("NET ARR STORE", "NET ARR STORE actuated"),
     "decide": ("NET STATE", "NET STATE NODE"),
     "audit": ("NET ARR REPORT",),
     "queues": ("NET ARR REPORT",),
@@ -73,7 +73,8 @@ def usage(words: Sequence[str]) -> list[str]:
         hint = f"; there are no options, as {quote(options[0])}" if options else ""
         return [f"{command} has {plural(len(words) - 1, 'word')} after it, and the form is {forms}{hint}"]
     words_of = dict(zip(form[1:], words[1:]))
-    fault = next(filter(None, (number_fault(name, word) for name, word in words_of.items() if name in BOUNDS)), None)
+    fault = next((f"the last word is {quote(word)}, and has to be `{name}`" for name, word in words_of.items() if name.islower() and word != name), None)
+    fault = fault or next(filter(None, (number_fault(name, word) for name, word in words_of.items() if name in BOUNDS)), None)
     fault = fault or (factors_fault(*(int(words_of[name]) for name in ("FROM", "TO", "STEP"))) if command == "scale" else None)
     return [f"{fault}; the form is {forms}"] if fault else []
 
