@@ -52,7 +52,7 @@ first_with_hold (Some hold) at (p ∷ ps) = (if nat_le p.cluster.arr at then wit
 abbrev pub with_hold : Net → Head → ℕ → List Platoon → List Platoon
 with_hold net head k list = if k == head.phase then first_with_hold net.run.hold head.at list else list
 
--- the thousandths of the greatest amount of a run that come in each later second of it; 0 without a rate
+-- how many thousandths of the greatest amount before it in its run each later second of a run has at least; 0 without a rate
 abbrev pub rate_of : Net → ℕ
 rate_of net = unwrap_or net.run.rate 0
 

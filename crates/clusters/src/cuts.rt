@@ -127,8 +127,9 @@ pub(crate) fn gather_platoons(
     requires series { series.now ≡ together streams.now (length series.now) }
     requires streams { AreStreams (length series.now) streams.now }
     requires links { AreOfLinks net.now streams.now }
-    ensures { IfOk result (λ platoons. ArePlatoonsBy (aged_load_of age net.now sensed.entry.now) cutting.gap cutting.rate
-        (span_at cutting.first cutting.most) sensed.entry.now.now (length series.now) streams.now platoons.items) }
+    ensures { IfOk result (λ platoons. ArePlatoonsBy (aged_load_of age net.now sensed.entry.now) cutting.gap
+        cutting.rate (span_at cutting.first cutting.most) sensed.entry.now.now (length series.now)
+        streams.now platoons.items) }
 {
     let mut platoons = Vec::with_capacity(alloc, CAPACITY)?;
     let mut from = 0;

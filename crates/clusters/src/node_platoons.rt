@@ -167,7 +167,7 @@ fn hold_in(list: &mut [Platoon], net: &Network, phase: u8, head: &Head)
 struct ClusterOptions {
     /// In how many seconds the weight of a link whose queue stands grows by itself, if it grows.
     age: Option<u32>,
-    /// How many thousandths of the greatest amount of a platoon come in each later second of it; 0 for any.
+    /// How many thousandths of the greatest amount before it in its platoon each later second of one has at least; 0 for any.
     rate: u32,
     /// The head in whose green the first platoon is to end, if it has to.
     split: Option<Head>,
@@ -189,7 +189,8 @@ fn platoons_of(
     requires age { IsAge asked.age }
     requires head { IfSome asked.split (λ head. head.since ≤ head.at) }
     ensures { IfOk result
-        (λ list. ArePlatoonsAsked asked.age asked.rate asked.split net.now node phase sensed.entry.now heard.now list.items) }
+        (λ list. ArePlatoonsAsked asked.age asked.rate asked.split net.now node phase
+        sensed.entry.now heard.now list.items) }
 {
     let times = net.plan(node).phase(phase);
     let run = net.run();
