@@ -3,7 +3,7 @@ use Rattle.std.proofs.Common.{◌≡◌, ℕ, ◌+◌, ◌<◌, ◌≤◌, List,
 use Rattle.std.proofs.lemmas.List.{length-map, get_or-map}
 use Rattle.std.proofs.lemmas.List.Elements.{All-from_get_or}
 use Rattle.board_model.specs.declared.boards.Heard.{Heard}
-use Rattle.phase_plan.specs.Phases.{IsPlan}
+use Rattle.phase_plan.specs.Phases.{IsRing}
 use Rattle.phase_plan.specs.declared.Phase.{Phase}
 use Rattle.switch_rules.specs.Sequences.{AreNextServings}
 use Rattle.switch_rules.specs.Serving.{IsHead}
@@ -33,7 +33,7 @@ pub lists-short : (lists : List (List Cluster)) → sum (counts_of lists) ≤ 40
 lists-short lists few = All-from_get_or (λ list. length list < 4294967296) lists [] (λ k lt.
     omega (arith, few, count-le-sum (counts_of lists) k, get_or-map (λ (list : List Cluster). length list) lists k [] 0 lt))
 
-module _ (net : Net) (node : ℕ) (sensed : Sensed) (heard : List Heard) (plan : List Phase) (head : Head) (window : Window) (i : Problem) (schedule : Schedule) (p : IsPlan plan) (same : plan ≡ round_plan net node sensed)
+module _ (net : Net) (node : ℕ) (sensed : Sensed) (heard : List Heard) (plan : List Phase) (head : Head) (window : Window) (i : Problem) (schedule : Schedule) (p : IsRing plan) (same : plan ≡ round_plan net node sensed)
     (expected : IsExpected net node head sensed heard window) (is : i ≡ record { plan = plan; head = head; lists = cluster_lists window.lists }) (scheduled : IsScheduled i schedule) where
   plan-next : AreNextServings plan (cluster_lists window.lists) (counts_of (cluster_lists window.lists)) head schedule.phases schedule.served
   plan-next = subst (λ (q : Problem). AreNextServings q.plan q.lists (counts_of q.lists) q.head schedule.phases schedule.served) is scheduled.next

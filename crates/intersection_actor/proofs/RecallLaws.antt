@@ -1,11 +1,11 @@
 -- What the phases of a round keep of those of the node.
 use Rattle.std.proofs.Common.{◌≡◌, ℕ, List, Option, Some, None, length, refl}
-use Rattle.phase_plan.specs.Phases.{IsPlan}
+use Rattle.phase_plan.specs.Phases.{IsRing}
 use Rattle.switch_rules.specs.Serving.{IsHead}
 use Rattle.switch_rules.specs.declared.Head.{Head}
 use Rattle.control_flow.specs.Greens.{IsLawful}
 use Rattle.control_flow.specs.declared.greens.Green.{Green}
-use Rattle.control_flow.proofs.RecallLaws.{head-still, lawful-still, length-recalled, plan-still}
+use Rattle.control_flow.proofs.RecallLaws.{head-still, lawful-still, length-recalled, ring-still}
 use Rattle.net_parts.specs.Numbers.{Net}
 use Rattle.net_parts.specs.Outline.{plan_at}
 use Rattle.road_net.specs.declared.senses.Sensed.{Sensed}
@@ -20,11 +20,11 @@ module _ (net : Net) (node : ℕ) (sensed : Sensed) where
   pub length-round : length (round_plan net node sensed) ≡ length (plan_at net node)
   length-round = length-by net.run.recall
 
-  plan-by : (o : Option ℕ) → IsPlan (plan_at net node) → IsPlan (plan_by net node sensed o)
+  plan-by : (o : Option ℕ) → IsRing (plan_at net node) → IsRing (plan_by net node sensed o)
   plan-by None p = p
-  plan-by (Some recall) p = plan-still (plan_at net node) (is_recalled net node sensed recall) p
+  plan-by (Some recall) p = ring-still (plan_at net node) (is_recalled net node sensed recall) p
 
-  pub plan-round : IsPlan (plan_at net node) → IsPlan (round_plan net node sensed)
+  pub plan-round : IsRing (plan_at net node) → IsRing (round_plan net node sensed)
   plan-round = plan-by net.run.recall
 
   head-by : (o : Option ℕ) (head : Head) → IsHead (plan_at net node) head → IsHead (plan_by net node sensed o) head

@@ -3,7 +3,7 @@ use Rattle.std.proofs.Common.{◌≡◌, ℕ, ◌+◌, ◌<◌, ◌≤◌, List,
 use Rattle.std.specs.Option.{option_map}
 use Rattle.std.proofs.lemmas.List.Elements.{All-cons, All-nil}
 use Rattle.foundation.proofs.OptionLaws.{option-cases}
-use Rattle.phase_plan.specs.Phases.{IsPlan}
+use Rattle.phase_plan.specs.Phases.{IsRing}
 use Rattle.phase_plan.specs.declared.Phase.{Phase}
 use Rattle.phase_plan.proofs.RingLaws.{phase-bounds}
 use Rattle.switch_rules.specs.Orders.{one_less}
@@ -33,7 +33,7 @@ served-few plan lists (k ∷ ks) left head (s ∷ ss) next =
     omega (arith, sum-one_less left k some, served-few plan lists ks (one_less left k) (head_after k s) ss next.1)
 
 -- greens begin no later than clusters arrive and may wait
-module _ (plan : List Phase) (lists : List (List Cluster)) (p : IsPlan plan) (each : length lists ≡ length plan) (bounds : All (All IsCluster) lists) (n : ℕ) (soon : ArriveBy n lists) where
+module _ (plan : List Phase) (lists : List (List Cluster)) (p : IsRing plan) (each : length lists ≡ length plan) (bounds : All (All IsCluster) lists) (n : ℕ) (soon : ArriveBy n lists) where
   pub greens-by : (ks left : List ℕ) (head : Head) (ss : List Served) → IsHead plan head → n + 3600 ≤ 100000 → AreNextServings plan lists left head ks ss → All (λ (s : Served). s.green ≤ 100000) ss
   greens-by [] left head [] h few next = All-nil (λ (s : Served). s.green ≤ 100000)
   greens-by [] left head (s ∷ ss) h few next = absurd next

@@ -1,6 +1,6 @@
 -- What is kept of a plan of a round. No public clause names these words.
 use Rattle.std.specs.Prelude.{◌≡◌, ℕ, List, Some}
-use Rattle.phase_plan.specs.Phases.{IsPlan}
+use Rattle.phase_plan.specs.Phases.{IsRing}
 use Rattle.phase_plan.specs.declared.Phase.{Phase}
 use Rattle.switch_rules.specs.declared.Head.{Head}
 use Rattle.control_flow.specs.Greens.{GoesOn, IsContinued, IsLawful, head_at}
@@ -19,5 +19,5 @@ kept_of p = record { window = p.window; phases = p.schedule.phases; served = p.s
 
 -- what splicing keeps of a lawful timeline
 abbrev pub IsLawAlong : List Green → List Green → List Green → Type 0
-IsLawAlong old next new = (plan : List Phase) (now : ℕ) (head : Head) → IsPlan plan → IsLawful plan old → head_at plan old now ≡ Some head → IsLawful plan next → GoesOn head next
+IsLawAlong old next new = (plan : List Phase) (now : ℕ) (head : Head) → IsRing plan → IsLawful plan old → head_at plan old now ≡ Some head → IsLawful plan next → GoesOn head next
     → IsContinued plan old now next new

@@ -281,7 +281,7 @@ impl Actor {
         ensures refused { OnErr result (self.new ≡ self.old) }
         ensures of { IsOf net.now self.new }
     {
-        // Called for its clause `plan`, and not for the count.
+        // Called for its clause `ring`, and not for the count.
         let _ = net.plan(self.node).count();
         let want = next_told(net, self.node, 0);
         let kept = keep_plan(

@@ -71,7 +71,7 @@ pub(crate) fn plan_round<P: Planner>(
     ensures { IfOk result (IsPlanned net.now node line.now sensed.entry.now heard.now) }
 {
     let own = net.plan(node);
-    // Called for its clause `plan`, and not for the count.
+    // Called for its clause `ring`, and not for the count.
     let _ = own.count();
     let until = sensed.now + net.run().look;
     let head = head_at(own, line, sensed.now);
@@ -104,7 +104,7 @@ fn expected_window(
     requires heard { IsHeardOf net.now node heard.now }
     ensures { IfOk result (IsExpected net.now node head.now sensed.entry.now heard.now) }
 {
-    // Called for its clause `plan`, and not for the count.
+    // Called for its clause `ring`, and not for the count.
     let _ = net.plan(node).count();
     let lists = expected_platoons(alloc, net, node, head, sensed, heard)?;
     window(alloc, lists)
@@ -124,7 +124,7 @@ fn problem(
     ensures { IfOk result (λ i. i
         ≡ record { plan = plan; head = head.now; lists = cluster_lists window.now.lists }) }
 {
-    // Called for its clause `plan`, and not for the count.
+    // Called for its clause `ring`, and not for the count.
     let _ = plan.count();
     let lists = cluster_lists(alloc, window.lists.as_slice())?;
     match Instance::new(plan, *head, lists) {

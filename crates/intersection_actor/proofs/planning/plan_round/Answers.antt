@@ -1,5 +1,5 @@
-use Rattle.std.proofs.Common.{◌≡◌, ℕ, ◌+◌, ◌∙◌, List, Some, length, ap, subst, sym, arith}
-use Rattle.phase_plan.specs.Phases.{IsPlan}
+use Rattle.std.proofs.Common.{◌≡◌, ◌+◌, ◌∙◌, List, Some, length, ap, subst, sym, arith}
+use Rattle.phase_plan.specs.Phases.{IsRing}
 use Rattle.phase_plan.specs.declared.Phase.{Phase}
 use Rattle.schedule_meaning.specs.Instances.{Problem}
 use Rattle.switch_rules.specs.Serving.{IsHead}
@@ -26,7 +26,7 @@ schedule_line-requires-clause-reach g c =
 pub schedule_line-requires-clause-law : goal.schedule_line-requires-clause-law
 schedule_line-requires-clause-law g c s scheduled =
     let own : IsHead (plan_at c.args.net.now c.args.node) c.head_at-head.result = subst (λ (ps : List Phase). IsHead ps c.head_at-head.result) c.plan-own.ensures.value c.head_at-head.ensures.head in
-    let plan : IsPlan c.in_ok-plan.plan = subst IsPlan (sym c.in_ok-plan.ensures) (plan-round c.args.net.now c.args.node c.args.sensed.now (subst IsPlan c.plan-own.ensures.value c.count.ensures.plan)) in
+    let plan : IsRing c.in_ok-plan.plan = subst IsRing (sym c.in_ok-plan.ensures) (plan-round c.args.net.now c.args.node c.args.sensed.now (subst IsRing c.plan-own.ensures.value c.count.ensures.ring)) in
     let head : IsHead c.in_ok-plan.plan c.head_at-head.result = rw c.in_ok-plan.ensures (head-round c.args.net.now c.args.node c.args.sensed.now c.head_at-head.result own) in
     plan-soon c.args.net.now c.args.node c.args.sensed.now c.args.heard.now c.in_ok-plan.plan c.head_at-head.result c.in_ok-window.window c.in_ok-instance.instance s
     plan c.in_ok-plan.ensures c.in_ok-window.ensures c.in_ok-instance.ensures scheduled

@@ -1,5 +1,5 @@
 use Rattle.std.proofs.Common.{subst, sym, ◌∙◌, ap}
-use Rattle.phase_plan.specs.Phases.{IsPlan}
+use Rattle.phase_plan.specs.Phases.{IsRing}
 use Rattle.net_parts.specs.Outline.{plan_at}
 use Rattle.intersection_actor.specs.Acting.{Acting, told_at}
 use Rattle.intersection_actor.specs.Rounds.{IsCommitted, IsOf, KeepsPast}
@@ -22,7 +22,7 @@ returns-clause-kept c =
     subst (λ (k : Kept). KeepsPast c.args.net.now c.args.self.now (settled_by a k c.keep_plan.new.line c.keep_plan.new.records.items c.next_told-want.result)) (sym c.in_ok-kept.ensures.kept)
     (keeps c.args.net.now a c.args.self.now c.args.plan c.keep_plan.new.line c.keep_plan.new.records.items c.next_told-want.result c.self.view_is c.requires.of c.requires.want c.requires.planned
     c.plan.ensures.network
-    (λ head. c.in_ok-kept.ensures.law (plan_at c.args.net.now c.self.inside.node) c.self.inside.sensed.now head (subst IsPlan c.plan.ensures.value c.count.ensures.plan)))
+    (λ head. c.in_ok-kept.ensures.law (plan_at c.args.net.now c.self.inside.node) c.self.inside.sensed.now head (subst IsRing c.plan.ensures.value c.count.ensures.ring)))
 
 pub returns-clause-of : goal.returns-clause-of
 returns-clause-of c =
@@ -30,7 +30,7 @@ returns-clause-of c =
     subst (λ (k : Kept). IsOf c.args.net.now (settled_by a k c.keep_plan.new.line c.keep_plan.new.records.items c.next_told-want.result)) (sym c.in_ok-kept.ensures.kept)
     (still c.args.net.now a c.args.self.now c.args.plan c.keep_plan.new.line c.keep_plan.new.records.items c.next_told-want.result c.self.view_is c.requires.of c.requires.want c.requires.planned
     c.plan.ensures.network
-    (λ head. c.in_ok-kept.ensures.law (plan_at c.args.net.now c.self.inside.node) c.self.inside.sensed.now head (subst IsPlan c.plan.ensures.value c.count.ensures.plan))
+    (λ head. c.in_ok-kept.ensures.law (plan_at c.args.net.now c.self.inside.node) c.self.inside.sensed.now head (subst IsRing c.plan.ensures.value c.count.ensures.ring))
     c.next_told-want.ensures.value)
 
 pub returns-clause-tells : goal.returns-clause-tells
