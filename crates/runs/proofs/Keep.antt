@@ -13,7 +13,7 @@ use Rattle.intersection_actor.proofs.RecallLaws.{head-round, lawful-round, lengt
 use Rattle.intersection_actor.proofs.ServedLaws.{greens-by, schedule-made}
 use Rattle.net_parts.specs.Numbers.{Net}
 use Rattle.net_parts.specs.Outline.{plan_at}
-use Rattle.phase_plan.specs.Phases.{IsPlan}
+use Rattle.phase_plan.specs.Phases.{IsRing}
 use Rattle.phase_plan.specs.declared.Phase.{Phase}
 use Rattle.road_net.specs.Network.{IsNetwork}
 use Rattle.road_net.specs.declared.senses.Sensed.{Sensed}
@@ -28,13 +28,13 @@ use Rattle.switch_rules.specs.declared.Served.{Served}
 use Rattle.runs.specs.Runs.{AllCommit, line_before, sensed_in}
 use Rattle.runs.proofs.Plannable.{plannable, window-count}
 
-next-line : (plan : List Phase) (head : Head) (answer : Answer) (served : List Served) (until : ℕ) → IsPlan plan → IsSoonHead plan head → until + 20 ≤ 100000
+next-line : (plan : List Phase) (head : Head) (answer : Answer) (served : List Served) (until : ℕ) → IsRing plan → IsSoonHead plan head → until + 20 ≤ 100000
     → AreServings plan head (phases_of answer) served → All (λ (s : Served). s.green ≤ 100000) served → IsNext plan head (line_for plan head answer served until)
 next-line plan head (Plan sequence delay) served until p h soon are greens = line-next plan head until p h soon sequence served are greens
 next-line plan head NoPlan served until p h soon are greens = rotation-next plan head until p h soon
 
 module _ (net : Net) (network : IsNetwork net) (node : ℕ) (below : node < length net.node_names) where
-  plan : IsPlan (plan_at net node)
+  plan : IsRing (plan_at net node)
   plan = plan-is net network node below
 
   first-line : IsLine (plan_at net node) (rotation_of (plan_at net node) first_head 0)
@@ -56,7 +56,7 @@ module _ (net : Net) (network : IsNetwork net) (node : ℕ) (below : node < leng
     abbrev phases : List Phase
     phases = round_plan net node sensed
 
-    phases-plan : IsPlan phases
+    phases-plan : IsRing phases
     phases-plan = plan-round net node sensed plan
 
     phases-head : IsSoonHead phases c.head

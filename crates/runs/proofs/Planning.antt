@@ -1,7 +1,7 @@
 -- Each round of a run continues its nodes' lines within intergreens.
 use Rattle.std.proofs.Common.{◌≡◌, ℕ, zero, suc, ◌+◌, ◌*◌, ◌<◌, ◌≤◌, ◌==◌, max, leb, Bool, true, List, All, Contains, Option, Some, None, length, map, unwrap_or, refl, sym, ap, subst, ◌∙◌, inl, inr, arith, suc-mul, eqb-true}
 use Rattle.std.specs.Option.{option_map}
-use Rattle.std.proofs.lemmas.Bool.{cases_lt, le-leb}
+use Rattle.std.proofs.lemmas.Bool.{cases_lt, le-leb, or_left}
 use Rattle.std.proofs.lemmas.List.{get_or_past, length-map}
 use Rattle.std.proofs.lemmas.Nat.{div_below, mul-le}
 use Rattle.std.proofs.lemmas.Option.{none-some, same_Some}
@@ -10,7 +10,7 @@ use Rattle.board_model.specs.declared.boards.Heard.{Heard}
 use Rattle.clusters.specs.Inflow.{no_sense, sense_of}
 use Rattle.clusters.specs.Sound.{ArePlannable, cluster_lists, clusters_of}
 use Rattle.control_flow.specs.Greens.{IsLawful, end_of, row_at}
-use Rattle.control_flow.specs.Recalls.{recalled}
+use Rattle.control_flow.specs.Recalls.{lose_all, loses_mark, recalled}
 use Rattle.control_flow.specs.Timelines.{AreServings}
 use Rattle.control_flow.specs.declared.greens.Green.{Green}
 use Rattle.control_flow.proofs.RecallLaws.{length-recalled, recalled-at}
@@ -29,7 +29,7 @@ use Rattle.net_simulator.specs.Sums.{end_of_run}
 use Rattle.net_simulator.specs.Worlds.{signs_by}
 use Rattle.net_simulator.proofs.AtNodes.{past-at-nodes}
 use Rattle.net_parts.specs.Outline.{link_at, phase_links_at, plan_at}
-use Rattle.phase_plan.specs.Phases.{IsPlan, is_unmarked_at, no_phase}
+use Rattle.phase_plan.specs.Phases.{IsRing, is_unmarked_at, no_phase}
 use Rattle.phase_plan.specs.declared.Phase.{Phase}
 use Rattle.road_net.specs.Network.{IsNetwork, entry_links}
 use Rattle.road_net.specs.declared.senses.LinkSense.{LinkSense}
@@ -58,17 +58,17 @@ use Rattle.waits.proofs.Intergreens.{intergreens-same, line-intergreens, turned-
 use Rattle.waits.proofs.Rounds.{kept}
 use Rattle.waits.proofs.Soon.{next-soon}
 
-next-line : (plan : List Phase) (head : Head) (answer : Answer) (served : List Served) (until : ℕ) → IsPlan plan → IsSoonHead plan head → until + 20 ≤ 100000
+next-line : (plan : List Phase) (head : Head) (answer : Answer) (served : List Served) (until : ℕ) → IsRing plan → IsSoonHead plan head → until + 20 ≤ 100000
     → AreServings plan head (phases_of answer) served → All (λ (s : Served). s.green ≤ 100000) served → IsNext plan head (line_for plan head answer served until)
 next-line plan head (Plan sequence delay) served until p h soon are greens = line-next plan head until p h soon sequence served are greens
 next-line plan head NoPlan served until p h soon are greens = rotation-next plan head until p h soon
 
-next-intergreens : (plan : List Phase) (head : Head) (answer : Answer) (served : List Served) (by look until : ℕ) → IsPlan plan → IsHead plan head → head.at ≤ 104000
+next-intergreens : (plan : List Phase) (head : Head) (answer : Answer) (served : List Served) (by look until : ℕ) → IsRing plan → IsHead plan head → head.at ≤ 104000
     → AreServings plan head (phases_of answer) served → by ≤ head.at + look → BeginSoon plan by head (phases_of answer) served → AreIntergreensWithin (longest_intergreen plan look) (line_for plan head answer served until)
 next-intergreens plan head (Plan sequence delay) served by look until p h reach are near soon = line-intergreens plan look p sequence served head by until h reach are near soon
 next-intergreens plan head NoPlan served by look until p h reach are near soon = turned-intergreens plan look (is_unmarked_at plan) head _ until
 
-next-ends : (plan : List Phase) (head : Head) (answer : Answer) (served : List Served) (until : ℕ) → IsPlan plan → IsHead plan head → head.at ≤ 104000 → AreServings plan head (phases_of answer) served → until < end_of (line_for plan head answer served until)
+next-ends : (plan : List Phase) (head : Head) (answer : Answer) (served : List Served) (until : ℕ) → IsRing plan → IsHead plan head → head.at ≤ 104000 → AreServings plan head (phases_of answer) served → until < end_of (line_for plan head answer served until)
 next-ends plan head (Plan sequence delay) served until p h reach are = (line_of-line plan sequence served head until p h reach are).end
 next-ends plan head NoPlan served until p h reach are = (rotation_of-line plan head until p h reach).end
 
@@ -88,7 +88,7 @@ module _ (net : Net) (node : ℕ) (sensed : Sensed) (look : ℕ) where
   intergreen-round = intergreen-by net.run.recall
 
 module _ (net : Net) (network : IsNetwork net) (node : ℕ) (below : node < length net.node_names) where
-  plan : IsPlan (plan_at net node)
+  plan : IsRing (plan_at net node)
   plan = plan-is net network node below
 
   module _ (round : ℕ) (old : List Green) (sensed : Sensed) (heard : List Heard) (c : Commitment) (early : sensed.now ≤ 18000) (line : IsLine (plan_at net node) old) (is : IsCommit net node round old sensed heard c) where
@@ -105,7 +105,7 @@ module _ (net : Net) (network : IsNetwork net) (node : ℕ) (below : node < leng
     abbrev phases : List Phase
     phases = round_plan net node sensed
 
-    phases-plan : IsPlan phases
+    phases-plan : IsRing phases
     phases-plan = plan-round net node sensed plan
 
     phases-head : IsSoonHead phases c.head
@@ -135,11 +135,12 @@ module _ (net : Net) (network : IsNetwork net) (node : ℕ) (below : node < leng
     pub next : IsNext (plan_at net node) c.head c.next
     next = record { line = record { lawful = lawful-round net node sensed c.next own.line.lawful; begins = own.line.begins }; goes = own.goes }
 
-    -- where a phase is recalled they are lawful with it recalled
+    -- where a phase is recalled they are lawful where it has no mark
     pub next-free : (recall k : ℕ) → net.run.recall ≡ Some recall → is_recalled net node sensed recall k ≡ true → IsLawful (freed (plan_at net node) k) c.next
     next-free recall k has asked =
         let recalls : ℕ → Bool = is_recalled net node sensed recall in
-        lawful-fewer (plan_at net node) (λ j. j == k) recalls (λ j same. subst (λ (n : ℕ). recalls n ≡ true) (sym (eqb-true j k same)) asked) c.next
+        lawful-fewer (plan_at net node) (λ j. j == k) (loses_mark (plan_at net node) recalls)
+        (λ j same. or_left (recalls j) (lose_all (plan_at net node) recalls) (subst (λ (n : ℕ). recalls n ≡ true) (sym (eqb-true j k same)) asked)) c.next
         (subst (λ (o : Option ℕ). IsLawful (plan_by net node sensed o) c.next) has own.line.lawful)
 
     -- new greens begin within the look ahead, or as early as they can

@@ -28,7 +28,7 @@ last_line run node = slice_index_or run.timelines node []
 -- `lawful`, `safe`: the timelines of the nodes after the last round are lawful, and no two links in conflict are ever green
 -- together;
 -- `signs`: in each second of the run these timelines show the same signs as those by which the vehicles moved;
--- `waits`: each queue of a phase that has a bound loses something within it.
+-- `waits`: each queue of a link without a walk, of a phase that has a bound, loses something within it.
 pub record KeepsPromises (net : Net) (arriving : ℕ → ℕ → ℕ) (history : List ℕ) (made : ℕ → ℕ → Commitment) (run : RunRecord) : Type 0 where
   pub named : All (NamesVersions net history) run.plans
   pub newer : NeverOlder run.plans

@@ -10,8 +10,8 @@ use road_net::{Network, law_of_network};
 
 /// Every run of a lawful history keeps what is promised of plans and signals: each plan names the versions that it used, none
 /// older than one that its node had seen; its instance is that of just these versions and of what the node sensed, and no sequence
-/// of it has less delay; the signals are lawful and safe, and show at last what the world moved by; and each queue of a phase that
-/// has a bound loses something within it. Its record has one plan for each round and node, in their order.
+/// of it has less delay; the signals are lawful and safe, and show at last what the world moved by; and each queue of a link without
+/// a walk, of a phase that has a bound, loses something within it. Its record has one plan for each round and node, in their order.
 ///
 /// docs/RULES.md, "Run".
 pub fn law_of_runs(net: &Network)

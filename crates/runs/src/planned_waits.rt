@@ -19,8 +19,8 @@ pub fn law_of_planned_lines()
         → AreWholeLines net (intergreens_of net net.run.look) (end_of_run net) (line_before net made net.run.rounds) }
 {}
 
-/// In every run, of whatever history, no queue waits for ever: each queue of a phase that has a bound loses something within it,
-/// where the run goes on as long, and what stands at a second leaves green by green.
+/// In every run, of whatever history, no queue of a link without a walk waits for ever: where its phase has a bound, it loses
+/// something within it if the run goes on as long, and what stands at a second, of an unmarked phase, leaves green by green.
 ///
 /// docs/RULES.md, "How long a queue can wait".
 pub fn law_of_planned_waits()
