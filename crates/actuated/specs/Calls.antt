@@ -37,6 +37,7 @@ is_held calls s = calls_for calls s || not (another_calls calls s)
 abbrev pub held_until : List Phase → Head → List ℕ → ℕ
 held_until plan head calls = if is_held calls head.phase then head.since + (phase_at plan head.phase).greatest else earliest_end plan head
 
--- the line from a head: its green, and then the ring turns, stopping at phases that are unmarked or called
+-- the line from a head: its green, and then the ring turns, stopping at phases that are unmarked or called, or, where no other is, at
+-- the next one
 abbrev pub act_line : List Phase → Head → List ℕ → ℕ → List Green
 act_line plan head calls until = turned plan (stops_at plan calls) head (held_until plan head calls) until

@@ -17,7 +17,8 @@ use switch_rules::{Head, earliest_end};
 
 /// The timeline from a head by what calls for each phase: the green of the head is held as long as it may while its
 /// phase is called or no other is, and else ends as soon as it may. Then the ring turns, each green of its least
-/// length, until one ends after second `until`; it stops at the phases that are unmarked or called.
+/// length, until one ends after second `until`; it stops at the phases that are unmarked or called, or, where no other is,
+/// at the next one.
 ///
 /// The head is one of the plan, `at` and `until` are at most 104,000, and there is a number for each phase. `Err`:
 /// out of memory.

@@ -138,7 +138,7 @@ pub enum Command<'a> {
     Bounds {
         net: &'a str,
     },
-    /// Writes the same, and how long they can wait under a fixed plan.
+    /// Writes the same, how long they can wait under a fixed plan, and how long the reds of each phase are under it.
     BoundsFixed {
         net: &'a str,
         plan: &'a str,

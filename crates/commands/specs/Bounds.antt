@@ -1,4 +1,4 @@
--- The text of how long queues can wait.
+-- The text of how long queues can wait, and of how long phases are red under a fixed plan.
 use Rattle.std.specs.Prelude.{ℕ, List, [], ◌∷◌, Option, Some, None, Result, Ok, Err, codes, length, map}
 use Rattle.std.specs.Fmt.{decimal}
 use Rattle.std.specs.List.{flat_map, range_with_len}
@@ -13,7 +13,7 @@ use Rattle.waits.specs.declared.bounds.NoBound.TheVariants.{Marked, ShortGreen}
 use Rattle.waits.specs.declared.bounds.PhaseBounds.{PhaseBounds}
 use Rattle.world_records.specs.Records.{records_text}
 
--- a field: within how many seconds each queue of a phase loses something, or why there is no such bound
+-- a field: within how many seconds each queue of a phase, of a link without a walk, loses something, or why there is no such bound
 abbrev pub bound_field : Result ℕ NoBound → List ℕ
 bound_field (Ok seconds) = decimal seconds
 bound_field (Err Marked) = codes "marked"

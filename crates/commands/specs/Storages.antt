@@ -43,7 +43,8 @@ pub record IsSpillTable (net : Net) (arriving : ℕ → ℕ → ℕ) (store : Li
 abbrev pub told_totals : SpillTotals → Totals
 told_totals t = record { entered = t.entered; left = t.left; on = t.on; delay = t.delay }
 
--- what it says of greens and totals: the last lines of the run, and what the world with the store counts under them
+-- what the report of a spill run says of greens and totals: the last lines of the run, and what the world with the store counts under
+-- them
 abbrev pub spill_sheet : Net → (ℕ → ℕ → ℕ) → List ℕ → SpillRun → Sheet
 spill_sheet net arriving store run = record {
   lines = run.timelines;

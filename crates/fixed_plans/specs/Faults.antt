@@ -32,7 +32,7 @@ abbrev pub IsAtOffset : Net → List FixedRow → FixedRow → Type 0
 IsAtOffset net before r =
     ComesNext net (last_of None before) r × HasGreen (plan_at net r.node) r × ¬ HasOffset (last_of None before) r
 
--- these rows end before the last row of the last node
+-- these rows end before a row that may be the last of the last node
 abbrev pub EndEarly : Net → List FixedRow → Type 0
 EndEarly net rows = ¬ IsEnd net (last_of None rows)
 

@@ -15,7 +15,8 @@ use Rattle.waits.specs.declared.bounds.NoBound.TheVariants.{Marked, ShortGreen}
 abbrev pub green_bound : ℕ → ℕ → ℕ → Result ℕ NoBound
 green_bound loss length green = if nat_lt loss green then Ok (length + loss + 1) else Err ShortGreen
 
--- the same for the phase of a row; there is no such bound without a row
+-- within how many seconds each queue of the phase of a row, of a link without a walk, loses something in a cycle of this length; there
+-- is no such bound without a row
 abbrev pub row_bound : List Phase → ℕ → Option FixedRow → Result ℕ NoBound
 row_bound plan length None = Err Marked
 row_bound plan length (Some row) = green_bound (phase_at plan row.phase).loss length row.green

@@ -13,7 +13,7 @@ use Rattle.phase_plan.specs.declared.Phase.{Phase}
 abbrev pub cycle_red : List Phase → List FixedRow → ℕ → Option ℕ
 cycle_red plan cycle k = option_map (λ row. cycle_length plan cycle - row.green) (find (λ row. row.phase == k) cycle)
 
--- the same for phase k of a node of a network under a fixed plan
+-- from the end of a green of phase k of a node to the begin of its next one, under a fixed plan of the network; none without a row
 abbrev pub fixed_red : Net → List FixedRow → ℕ → ℕ → Option ℕ
 fixed_red net rows node k = cycle_red (plan_at net node) (rows_of rows node) k
 
@@ -24,8 +24,8 @@ pub record BeginsAt (rows : List Green) (k second : ℕ) : Type 0 where
   pub phase : (row_at rows index).phase ≡ k
   pub from : (row_at rows index).from ≡ second
 
--- Each red of phase k, after its first green, is so many seconds long: after a green of it the next one begins with the second in which so
--- many are over, where that is `end` at the latest, and none begins before.
+-- Each red of phase k, after its first green, is `red` seconds long: `red` seconds after the end of a green of it the next one begins,
+-- where that is `end` at the latest, and none begins before.
 pub record HasReds (rows : List Green) (k red end : ℕ) : Type 0 where
   pub next : (i : ℕ) → i < length rows → (row_at rows i).phase ≡ k → (row_at rows i).to + red ≤ end → BeginsAt rows k ((row_at rows i).to + red)
   pub none :

@@ -16,8 +16,8 @@ use road_net::Network;
 use std::alloc::{AllocError, Global};
 use waits::NoBound;
 
-/// Within how many seconds each queue of each phase of a node loses something under a fixed plan, or why there is no such bound; by
-/// phase. The plan is one of the network. `Err`: out of memory.
+/// Within how many seconds each queue of each phase of a node, of a link without a walk, loses something under a fixed plan, or why
+/// there is no such bound; by phase. The plan is one of the network. `Err`: out of memory.
 ///
 /// docs/RULES.md, "How long a queue can wait".
 pub fn fixed_bounds(
@@ -40,7 +40,7 @@ pub fn fixed_bounds(
     Ok(bounds)
 }
 
-/// Within how many seconds each queue of a phase loses something in a cycle, or why there is no such bound.
+/// Within how many seconds each queue of a phase, of a link without a walk, loses something in a cycle, or why there is no such bound.
 fn cycle_bound(plan: &PhasePlan, cycle: &[FixedRow], phase: u8) -> Result<u32, NoBound>
     requires cycle { IsCycle plan.now cycle.now }
     requires phase { phase < length plan.now }

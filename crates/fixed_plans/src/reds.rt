@@ -55,7 +55,7 @@ fn cycle_red(plan: &PhasePlan, cycle: &[FixedRow], phase: u8) -> Option<u32>
     }
 }
 
-/// Under a fixed plan each red of a phase that has a row is as long as `fixed_reds` says, from its first green on: so many seconds
+/// Under a fixed plan each red of a phase that has a row is as long as `fixed_reds` says, from its first green on: that many seconds
 /// after the end of a green of it the next one begins, and none before.
 ///
 /// docs/RULES.md, "How long a queue can wait".

@@ -20,7 +20,7 @@ use std::alloc::Global;
 ///
 /// The fault is out of memory; or `Header`, where the file does not begin with the header; or that of the first row at
 /// fault, within a row in the order `Row`, `Node`, `Phase`, `Green`, `Offset`; or else `Short`, where the file ends
-/// before the last row of the last node.
+/// before each unmarked phase of each node had a row, and each node two.
 ///
 /// docs/FORMATS.md, "Fixed plan".
 pub fn read_fixed_plan(alloc: Global, bytes: &[u8], net: &Network) -> Result<FixedPlan, FixedFault>

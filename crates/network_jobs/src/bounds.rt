@@ -20,8 +20,8 @@ fn make_bounds<S: Shelf>(alloc: Global, shelf: &mut S, net: &str) -> Result<Made
     Ok(Made::Done(text))
 }
 
-/// The command `bounds NET`: writes within how many seconds a queue of each phase loses something, under plans and under actuated
-/// control, or why there is no such bound.
+/// The command `bounds NET`: writes within how many seconds a queue of each phase, of a link without a walk, loses something, under
+/// plans and under actuated control, or why there is no such bound.
 ///
 /// Each status has its cause, and each refusal writes its line to `err`, as `signal` says.
 ///
@@ -54,8 +54,8 @@ fn make_fixed_bounds<S: Shelf>(
     Ok(Made::Done(text))
 }
 
-/// The command `bounds NET PLAN`: writes the same, and within how many seconds a queue of each phase loses something under the fixed
-/// plan in the second file, or why there is no such bound.
+/// The command `bounds NET PLAN`: writes what `bounds NET` does, and beside it the same bound under the fixed plan in the second
+/// file, and how long the reds of each phase are under that plan.
 ///
 /// Each status has its cause, and each refusal writes its line to `err`, as `signal` says.
 ///

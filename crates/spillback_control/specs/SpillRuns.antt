@@ -37,7 +37,7 @@ pub record IsSpillRun (net : Net) (arriving : ℕ → ℕ → ℕ) (store : ℕ 
   pub by : IsActuatedIn net arriving store run.totals
   pub lines : run.timelines ≡ last_lines net by.made
 
--- what it counts in all is what that world counts under its last lines
+-- what a spill run counts in all is what the world with the store counts under its last lines
 abbrev pub CountsLastLines : Net → (ℕ → ℕ → ℕ) → (ℕ → ℕ) → SpillRun → Type 0
 CountsLastLines net arriving store run =
     run.totals ≡ stored_totals net arriving (cumulative_in net arriving store (signs_by (line_in run.timelines)) (end_of_run net)) (end_of_run net)
