@@ -4,7 +4,7 @@ use Rattle.std.specs.Fmt.{decimal}
 use Rattle.std.specs.List.{join_with_byte, range_with_len}
 use Rattle.std.proofs.lemmas.List.Elements.{All-append, All-map}
 use Rattle.std.proofs.lemmas.List.FromFn.{get_or-map-range_with_len, length-map-range_with_len}
-use Rattle.phase_plan.specs.Phases.{IsPlan}
+use Rattle.phase_plan.specs.Phases.{IsRing}
 use Rattle.phase_plan.specs.declared.Phase.{Phase}
 use Rattle.phase_plan.proofs.RingLaws.{phase-bounds}
 use Rattle.control_flow.specs.Greens.{BeginBy, IsGreen, row_at}
@@ -98,7 +98,7 @@ module _ (net : Net) (network : IsNetwork net) (arriving : ℕ → ℕ → ℕ) 
       (sym (ap (λ lines. line_in lines node) kept.run.by.timelines ∙ get_or-map-range_with_len (line_before net made net.run.rounds) 0 (length net.node_names) node node [] below (omega arith)))
       (begins-after net.run.rounds network.outline.run.rounds.0 (omega arith) node below)
 
-  row-fits : (plan : List Phase) → IsPlan plan → (row : Green) → IsGreen plan row → row.from ≤ 100000 → IsToldGreen row
+  row-fits : (plan : List Phase) → IsRing plan → (row : Green) → IsGreen plan row → row.from ≤ 100000 → IsToldGreen row
   row-fits plan p row green begin =
       let times = phase-bounds plan row.phase p green.phase in
       record {

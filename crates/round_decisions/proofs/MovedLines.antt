@@ -4,7 +4,7 @@ use Rattle.std.specs.Prelude.{◌==◌, if◌then◌else◌, nat_le, nat_lt}
 use Rattle.std.specs.Option.{option_map}
 use Rattle.std.proofs.lemmas.Bool.{cases_lt, eq-eqb, eqb-true, le-leb, le-ltb, lt-leb, lt-ltb, ne_eqb}
 use Rattle.std.proofs.lemmas.List.{map-append}
-use Rattle.phase_plan.specs.Phases.{IsPlan, first_up, is_unmarked_at, passed_numbers, passing, phase_at, switch_time}
+use Rattle.phase_plan.specs.Phases.{IsRing, first_up, is_unmarked_at, passed_numbers, passing, phase_at, switch_time}
 use Rattle.phase_plan.specs.declared.Phase.{Phase}
 use Rattle.phase_plan.proofs.RingLaws.{passes-marked}
 use Rattle.control_flow.specs.Greens.{head_at, head_in, row_after, rows_before, spliced}
@@ -143,7 +143,7 @@ module _ (d : ℕ) where
       pick true = refl
       pick false = refl
 
-  turned-moved : (plan : List Phase) → IsPlan plan → (head : Head) → head.phase < length plan → (to moved until : ℕ) → moved ≡ to + d → turned plan (is_unmarked_at plan) (moved_head d head) moved (until + d) ≡ moved_line d (turned plan (is_unmarked_at plan) head to until)
+  turned-moved : (plan : List Phase) → IsRing plan → (head : Head) → head.phase < length plan → (to moved until : ℕ) → moved ≡ to + d → turned plan (is_unmarked_at plan) (moved_head d head) moved (until + d) ≡ moved_line d (turned plan (is_unmarked_at plan) head to until)
   turned-moved plan p head below to moved until same =
       ap (λ t. turned plan (is_unmarked_at plan) (moved_head d head) t (until + d)) same
       ∙ turned-is plan (is_unmarked_at plan) p (passes-marked plan) (moved_head d head) (to + d) (until + d) below
@@ -162,7 +162,7 @@ module _ (d : ℕ) where
       by : (e g s f h : ℕ) → f ≡ e + d → h ≡ g + d → max f (min h (b + d - s)) ≡ max e (min g (b - s)) + d
       by e g s f h x y = omega (arith, x, y)
 
-  pub line_of-moved : (plan : List Phase) → IsPlan plan → (until : ℕ) (ks : List ℕ) (ss : List Served) (head : Head) → head.phase < length plan → AreServings plan head ks ss
+  pub line_of-moved : (plan : List Phase) → IsRing plan → (until : ℕ) (ks : List ℕ) (ss : List Served) (head : Head) → head.phase < length plan → AreServings plan head ks ss
       → line_of plan (moved_head d head) ks (map moved_served ss) (until + d) ≡ moved_line d (line_of plan head ks ss until)
   line_of-moved plan p until [] [] head below are = turned-moved plan p head below (head.since + (phase_at plan head.phase).greatest) (head.since + d + (phase_at plan head.phase).greatest) until (omega arith)
   line_of-moved plan p until [] (s ∷ ss) head below are = absurd are
@@ -178,7 +178,7 @@ module _ (d : ℕ) where
           ∙ ap (λ l. moved_line d (left_for plan head (last_end plan head k s.green) (passed_numbers plan head.phase k)) ++ l) rest
           ∙ sym (map-append (moved_green d) (left_for plan head (last_end plan head k s.green) (passed_numbers plan head.phase k)) (line_of plan (head_after k s) ks ss until))
 
-  pub line_for-moved : (plan : List Phase) → IsPlan plan → (head : Head) → head.phase < length plan → (answer : Answer) (served : List Served) (until : ℕ) → AreServings plan head (phases_of answer) served
+  pub line_for-moved : (plan : List Phase) → IsRing plan → (head : Head) → head.phase < length plan → (answer : Answer) (served : List Served) (until : ℕ) → AreServings plan head (phases_of answer) served
       → line_for plan (moved_head d head) answer (map moved_served served) (until + d) ≡ moved_line d (line_for plan head answer served until)
   line_for-moved plan p head below (Plan sequence delay) served until are = line_of-moved plan p until sequence served head below are
   line_for-moved plan p head below NoPlan served until are = turned-moved plan p head below (earliest_end plan head) (earliest_end plan (moved_head d head)) until (end-moved plan head)

@@ -14,7 +14,7 @@ use Rattle.intersection_actor.specs.declared.records.PlanRecord.{PlanRecord}
 use Rattle.intersection_actor.specs.declared.records.Used.{Used}
 use Rattle.net_parts.specs.Numbers.{Net}
 use Rattle.net_parts.specs.Outline.{plan_at}
-use Rattle.phase_plan.specs.Phases.{IsPlan}
+use Rattle.phase_plan.specs.Phases.{IsRing}
 use Rattle.road_net.specs.Network.{IsNetwork, heard_links}
 use Rattle.road_net.specs.declared.senses.Sensed.{Sensed}
 use Rattle.round_states.specs.States.{IsStateOf}
@@ -74,7 +74,7 @@ module _ (d : ℕ) where
 
   -- a commit from what is moved is the same commit, moved
   pub commit-moved : (net : Net) (node round later : ℕ) (old : List Green) (sensed : Sensed) (heard other : List Heard) (c : Commitment) → sensed.now + d ≡ later * net.run.step → IsHeardMoved d heard other
-      → IsPlan (round_plan net node sensed) → c.head.phase < length (round_plan net node sensed) → AreServings (round_plan net node sensed) c.head (phases_of c.answer) c.served
+      → IsRing (round_plan net node sensed) → c.head.phase < length (round_plan net node sensed) → AreServings (round_plan net node sensed) c.head (phases_of c.answer) c.served
       → IsCommit net node round old sensed heard c → IsCommit net node later (moved_line d old) (moved_sensed d sensed) other (moved_commit c)
   commit-moved net node round later old sensed heard other c begins same p below are is =
       let plan : round_plan net node (moved_sensed d sensed) ≡ round_plan net node sensed = plan-moved net node sensed net.run.recall refl in

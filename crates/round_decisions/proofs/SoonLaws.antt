@@ -21,7 +21,7 @@ use Rattle.intersection_actor.proofs.RecallLaws.{head-round, lawful-round, lengt
 use Rattle.intersection_actor.proofs.ServedLaws.{schedule-made}
 use Rattle.net_parts.specs.Numbers.{Net}
 use Rattle.net_parts.specs.Outline.{plan_at}
-use Rattle.phase_plan.specs.Phases.{IsPlan}
+use Rattle.phase_plan.specs.Phases.{IsRing}
 use Rattle.phase_plan.specs.declared.Phase.{Phase}
 use Rattle.phase_plan.proofs.RingLaws.{phase-bounds}
 use Rattle.road_net.specs.Network.{IsNetwork}
@@ -43,7 +43,7 @@ use Rattle.switch_rules.proofs.SequenceLaws.{next-within}
 use Rattle.switch_rules.proofs.ServingLaws.{serving-keeps}
 
 -- greens begin no later than clusters arrive and may wait
-module _ (plan : List Phase) (lists : List (List Cluster)) (p : IsPlan plan) (each : length lists ≡ length plan) (bounds : All (All IsCluster) lists) (n most : ℕ) (within : n + 3600 ≤ most) (soon : ArriveBy n lists) where
+module _ (plan : List Phase) (lists : List (List Cluster)) (p : IsRing plan) (each : length lists ≡ length plan) (bounds : All (All IsCluster) lists) (n most : ℕ) (within : n + 3600 ≤ most) (soon : ArriveBy n lists) where
   greens-soon : (ks left : List ℕ) (head : Head) (ss : List Served) → IsHead plan head → AreNextServings plan lists left head ks ss → All (λ (s : Served). s.green ≤ most) ss
   greens-soon [] left head [] h next = All-nil (λ (s : Served). s.green ≤ most)
   greens-soon [] left head (s ∷ ss) h next = absurd next
@@ -59,7 +59,7 @@ module _ (plan : List Phase) (lists : List (List Cluster)) (p : IsPlan plan) (ea
       All-cons (λ (x : Served). x.green ≤ most) s ss early (greens-soon ks (one_less left k) (head_after k s) ss keeps.bounds.head next.1)
 
 -- the timeline of an answer
-module _ (plan : List Phase) (head : Head) (until : ℕ) (p : IsPlan plan) (h : IsHead plan head) where
+module _ (plan : List Phase) (head : Head) (until : ℕ) (p : IsRing plan) (h : IsHead plan head) where
   answer-line : (answer : Answer) (served : List Served) → head.at ≤ 104000 → AreServings plan head (phases_of answer) served → IsLineFrom plan head until (line_for plan head answer served until)
   answer-line (Plan sequence delay) served reach are = line_of-line plan sequence served head until p h reach are
   answer-line NoPlan served reach are = rotation_of-line plan head until p h reach
@@ -82,7 +82,7 @@ since-by plan rows now head most begins e = by (row_after rows now) refl e
 
 module _ (net : Net) (network : IsNetwork net) (node : ℕ) (below : node < length net.node_names) (round : ℕ) (old : List Green) (sensed : Sensed) (heard : List Heard) (c : Commitment)
     (early : sensed.now ≤ 18000) (line : IsLine (plan_at net node) old) (is : IsCommit net node round old sensed heard c) where
-  plan : IsPlan (plan_at net node)
+  plan : IsRing (plan_at net node)
   plan = plan-is net network node below
 
   look : net.run.look ≤ 180
@@ -98,7 +98,7 @@ module _ (net : Net) (network : IsNetwork net) (node : ℕ) (below : node < leng
   abbrev phases : List Phase
   phases = round_plan net node sensed
 
-  pub phases-plan : IsPlan phases
+  pub phases-plan : IsRing phases
   phases-plan = plan-round net node sensed plan
 
   pub phases-head : IsHead phases c.head

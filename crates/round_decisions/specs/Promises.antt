@@ -48,7 +48,7 @@ pub record IsPlannedFrom (net : Net) (state : RoundState) (made : ℕ → Commit
 
 -- How a node's line goes on from the second in which a round begins: it is one for the next round, none of its rows begins too late
 -- there, before that second it shows the same signs, and it is continued by lawful rows whose intergreens are no longer than the node
--- looks ahead, or than yellow and all-red take; so what bounds the waits under the line bounds them under the next one.
+-- looks ahead, or than yellow and all-red take; so what bounds the waits of unmarked phases under the line bounds them under the next one.
 pub record GoesOnAt (net : Net) (round node : ℕ) (old new : List Green) : Type 0 where
   pub next : IsLineAt (plan_at net node) (begin_of net (round + 1)) new
   pub soon : BeginBy (begin_of net (round + 1) + farthest_begin) new

@@ -3,7 +3,6 @@ ghost use Rattle.std.specs.Prelude.{◌≡◌, ◌↔◌, IfErr, IfOk, IsTrue, M
 ghost use Rattle.std.specs.List.{range_with_len};
 ghost use Rattle.control_flow.specs.Greens.{BeginBy, end_of};
 ghost use Rattle.net_parts.specs.Outline.{plan_at};
-ghost use Rattle.phase_plan.specs.Phases.{IsPlan};
 ghost use Rattle.road_net.specs.Network.{IsNetwork};
 ghost use Rattle.round_states.specs.Faults.{AreBoardsOnce, AreSensedOnce, IsEntryFault};
 ghost use Rattle.round_states.specs.Order.{now_of};
