@@ -1,25 +1,23 @@
 -- The text of a planned instance.
-use Rattle.std.proofs.Common.{◌≡◌, ℕ, ◌≤◌, List, [], ◌++◌, length, get_or, IfSome, Option, Some, Result, Ok, Err, IfOk, sym, ap, subst, ◌∙◌, arith}
+use Rattle.std.proofs.Common.{◌≡◌, ℕ, ◌≤◌, List, [], ◌++◌, length, IfSome, Option, Some, Result, Ok, Err, IfOk, sym, ap, subst, ◌∙◌, arith}
 use Rattle.std.specs.Prelude.{Contains}
 use Rattle.std.proofs.lemmas.List.Elements.{All-contains}
 use Rattle.std.proofs.lemmas.List.Sums.{sum-map}
 use Rattle.histories.specs.Histories.{turn_order}
 use Rattle.arrivals.specs.Amounts.{Amounts, arriving_of}
-use Rattle.instance_form.specs.InstanceText.{HasText, IsWritable, IsWritableCluster, instance_text}
+use Rattle.instance_form.specs.InstanceText.{instance_text}
 use Rattle.instance_form.proofs.FormLaws.{text_once}
 use Rattle.instance_form.proofs.LengthLaws.{text-le}
 use Rattle.intersection_actor.specs.declared.records.PlanRecord.{PlanRecord}
 use Rattle.net_parts.specs.Numbers.{Net, number_of}
-use Rattle.phase_plan.specs.Phases.{IsPhase, no_phase}
-use Rattle.phase_plan.specs.declared.Phase.{Phase}
+use Rattle.phase_plan.specs.Phases.{is_free}
 use Rattle.runs.specs.declared.records.RunRecord.{RunRecord}
 use Rattle.scenario_gen.specs.Grids.{IsGrid}
 use Rattle.schedule_meaning.specs.Best.{IsLeast}
 use Rattle.schedule_meaning.specs.Instances.{Problem, IsInstance}
+use Rattle.schedule_meaning.proofs.TextLaws.{has-text}
 use Rattle.schedule_meaning.specs.declared.planners.Answer.{Answer}
 use Rattle.schedule_meaning.specs.declared.planners.Answer.TheVariants.{Plan, NoPlan}
-use Rattle.switch_rules.specs.Serving.{IsCluster}
-use Rattle.switch_rules.specs.declared.Cluster.{Cluster}
 use Rattle.commands.specs.Limits.{most_bytes}
 use Rattle.commands.specs.Kinds.{InstanceText}
 use Rattle.commands.specs.Texts.{Reads}
@@ -36,41 +34,18 @@ agree p (Plan s d) NoPlan one other = let e = sym one.0 ∙ other s in absurd (c
 agree p NoPlan (Plan t e) one other = let d = sym other.0 ∙ one t in absurd (cc)
 agree p NoPlan NoPlan one other = tt
 
--- an instance has a text
-phase_fits : (p : Phase) → IsPhase p → IsWritable p
-phase_fits p h = record {
-  least = omega (arith, h.least);
-  greatest = omega (arith, h.greatest);
-  yellow = omega (arith, h.yellow);
-  clear = omega (arith, h.clear);
-  loss = omega (arith, h.loss);
-  wait = omega (arith, h.wait);
-}
-
-cluster_fits : (c : Cluster) → IsCluster c → IsWritableCluster c
-cluster_fits c h = record { size = omega (arith, h.size); load = omega (arith, h.size, h.load); arr = omega (arith, h.arr); len = omega (arith, h.len) }
-
-has_text : (p : Problem) → IsInstance p → HasText p.plan p.head p.lists
-has_text p h = record {
-  count = h.plan.count;
-  each = h.lists;
-  phases = λ i d inside. phase_fits (get_or p.plan i d) (h.plan.phases i d inside);
-  head = record { phase = omega (arith, h.head.phase, h.plan.count); since = omega (arith, h.since); at = omega (arith, h.head.within, h.since, (h.plan.phases p.head.phase no_phase h.head.phase).greatest) };
-  clusters = λ i d inside. λ j e within. cluster_fits (get_or (get_or p.lists i d) j e) (h.clusters i d inside j e within);
-}
-
--- it is within the limit, and is read as this instance alone
+-- the text of an instance is within the limit, and is read as this instance alone
 reads : (p : Problem) (bytes : List ℕ) → IsInstance p → bytes ≡ instance_text p.plan p.head p.lists → Reads InstanceText bytes p
 reads p bytes h is =
-    let text = text-le p.plan p.head p.lists (has_text p h) in
+    let text = text-le (is_free p.plan) p.plan p.head p.lists (has-text p h) in
     let few : length bytes ≤ most_bytes = omega (arith, ap length is, text, sum-map length p.lists, h.few) in
     (few, (h, is))
 
 only : (p : Problem) (bytes : List ℕ) → IsInstance p → bytes ≡ instance_text p.plan p.head p.lists → (other : Problem) → Reads InstanceText bytes other → other ≡ p
 only p bytes h is other read =
     let texts : instance_text other.plan other.head other.lists ++ [] ≡ instance_text p.plan p.head p.lists ++ [] = ap (λ (text : List ℕ). text ++ []) (sym read.1.1 ∙ is) in
-    let same = text_once other.plan p.plan other.head p.head other.lists p.lists [] [] (has_text other read.1.0) (has_text p h) texts in
-    λ i. record { plan = same.0 i; head = same.1 i; lists = same.2 i }
+    let same = text_once (is_free other.plan) (is_free p.plan) other.plan p.plan other.head p.head other.lists p.lists [] [] (has-text other read.1.0) (λ free. free) (has-text p h) (λ free. free) texts in
+    λ i. record { plan = same.1 i; head = same.2 i; lists = same.3 i }
 
 -- the text of the instance of a plan of a run
 pub planned : (net : Net) (arrivals : Amounts) (history node : List ℕ) (number round : ℕ) (bytes : List ℕ) (run : RunRecord) (plan : PlanRecord) → IsRunOf net (arriving_of arrivals) history run
