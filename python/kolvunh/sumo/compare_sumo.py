@@ -2,8 +2,8 @@
 
     tools/sumo/compare_sumo.py NET PLACES ARR DIR [--seeds N] [--at-once] [--controllers NAME ..] [--program WORDS] [--jobs N]
 
-The controllers: `decide`, the program in the loop (loop.py); `turns` and `actuate`, the greens of the program's reports
-replayed; and SUMO's own `actuated` and `delay_based`, within the least and greatest greens of the network, and `fixed`, the
+The controllers: `decide`, the program in the loop (loop.py); `pressure`, max-pressure of the package, which looks each second;
+`turns` and `actuate`, the greens of the program's reports replayed; and SUMO's own `actuated` and `delay_based`, within the least and greatest greens of the network, and `fixed`, the
 plan that SUMO's tools make of the vehicles that come (tlsCycleAdaptation.py, and tlsCoordinator.py where there are several
 nodes). A seed draws the turns of the vehicles and SUMO's drivers; with --at-once these stop and start at once. The seconds in
 which SUMO showed something else than the greens are counted. Nothing here is proved.
@@ -21,11 +21,13 @@ from ..commands import Words, end
 from ..faults import Fault
 from ..programs import built_program_words
 from .layout import SUMO_HOME, read_greens, read_tables, read_places, vehicles
-from .loop import asker, run_loop
+from .loop import Loop, asker, run_control
 from .measures import differences, last_line, outcome, run_words
+from .pressure import MaxPressure
 from .to_sumo import convert, element, report_programs, rings, write_routes
 
-CONTROLLERS = ("decide", "turns", "actuate", "actuated", "delay_based", "fixed")
+CONTROLLERS = ("decide", "pressure", "turns", "actuate", "actuated", "delay_based", "fixed")
+LOOKING = ("decide", "pressure")
 REPORTED = ("turns", "actuate")
 HEADWAY = 2  # seconds between two vehicles of a queue that leaves by one lane
 SAFE = ("collisions", "emergency_stops")
@@ -76,9 +78,10 @@ def one_run(options, signals, reports, task):
     """The outcome of a controller with a seed, and the seconds that differ from the greens that were to be shown."""
     name, seed = task
     greens = reports.get(name)
-    if name == "decide":
+    if name in LOOKING:
         ask = asker(options.program, options.network, options.folder / f"state.{seed}.csv")
-        greens = run_loop(signals, ask, run_words(options.folder, name, seed, signals))
+        controller = Loop(signals, ask) if name == "decide" else MaxPressure(signals)
+        greens = run_control(signals, controller, run_words(options.folder, name, seed, signals))
     else:
         words = run_words(options.folder, name, seed, signals, additional_files(options, signals, name, seed, greens))
         run = subprocess.run(words, capture_output=True, text=True)
@@ -123,7 +126,7 @@ def work() -> None:
         results = dict(zip(tasks, runs.map(partial(one_run, options, signals, reports), tasks)))
     print(HEADER)
     for name in options.controllers:
-        print(row_of(name, [results[name, seed] for seed in seeds], name in ("decide", *REPORTED)))
+        print(row_of(name, [results[name, seed] for seed in seeds], name in (*LOOKING, *REPORTED)))
 
 
 def main() -> None:
