@@ -14,7 +14,7 @@ use std::alloc::AllocError;
 use switch_rules::Head;
 
 /// Adds the green of a head up to `to`, and then greens of the ring, each of its least length, until one ends after
-/// `until`. The ring stops at the phases that are unmarked or called; where none is, it goes to the next one.
+/// `until`. The ring stops at the phases that are unmarked or called; where no other is, it goes to the next one.
 pub(crate) fn turn(
     plan: &PhasePlan,
     calls: &[u32],

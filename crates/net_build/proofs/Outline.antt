@@ -20,6 +20,7 @@ use Rattle.net_parts.specs.declared.roads.Turn.{Turn}
 use Rattle.net_parts.specs.Bounds.{IsName, IsBounded, IsBoundedNode, IsBoundedPhase, IsBoundedLink, IsBoundedTurn, HasYieldBounds}
 use Rattle.net_parts.specs.Numbers.{Net, no_link, AreDistinct, number_of, number_if, yield_names, yield_sat, phase_of, plan_of, phases_of, also_of, link_of, turn_of, turns_of, yields_of, conflict_of, node_names, link_names, numbered}
 use Rattle.net_parts.specs.Outline.{IsOutline, IsLink, AreTurns, ArePhaseLinks, IsYieldSat, phases_at, also_at, plan_at, link_at, yields_at}
+use Rattle.net_parts.proofs.OutlineLaws.{counts-most}
 use Rattle.net_parts.proofs.DraftParts.{IsNumbered, numbered-parts, number_of-within, number_if-within, number_of-own}
 use Rattle.net_build.proofs.Plans.{IsRing-from_bounds, count-not_one}
 
@@ -169,8 +170,8 @@ module _ (d : Draft) (net : Net) (bounds : IsBounded d) (nodes_differ : AreDisti
   outline-from : IsOutline net
   outline-from = record {
     run = rw is.run bounds.run;
-    node_count = rw node_total bounds.counts.nodes;
-    link_count = rw link_total bounds.counts.links;
+    node_count = rw node_total (bounds.counts.nodes.0, (counts-most d bounds.counts).0);
+    link_count = rw link_total (bounds.counts.links.0, (counts-most d bounds.counts).1);
     node_names = rw is.nodes (All-map IsName (λ n. n.name) d.nodes (All-weaker IsBoundedNode (λ n. IsName n.name) (λ n ok. ok.own.name) d.nodes bounds.nodes));
     nodes_differ = rw is.nodes nodes_differ;
     link_names = rw is.names (All-map IsName (λ l. l.name) d.links (All-weaker IsBoundedLink (λ l. IsName l.name) (λ l ok. ok.own.name) d.links bounds.links));
@@ -191,7 +192,7 @@ module _ (d : Draft) (net : Net) (bounds : IsBounded d) (nodes_differ : AreDisti
     yield_count = each-length (yields_of (link_names d)) d.links net.yields is.yields ∙ sym link_total;
     yields = rw is.names (each-All (yields_of (link_names d)) IsBoundedLink (ArePhaseLinks (length (link_names d))) (yields-bounds (link_names d)) d.links net.yields bounds.links is.yields);
     yield_sats = outline-given;
-    conflict_count = rw (each-length (conflict_of (link_names d)) d.conflicts net.conflicts is.conflicts) bounds.counts.conflicts;
+    conflict_count = rw (each-length (conflict_of (link_names d)) d.conflicts net.conflicts is.conflicts) (counts-most d bounds.counts).2;
     conflicts = rw is.names (each-All (conflict_of (link_names d)) (λ _. ⊤) (λ c. (c.0 < length (link_names d)) × (c.1 < length (link_names d))) (λ x c _ h. conflict-bounds (link_names d) x c h) d.conflicts net.conflicts (anything d.conflicts) is.conflicts);
   }
 

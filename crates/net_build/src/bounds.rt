@@ -1,15 +1,15 @@
 //! The bounds of what stands in a draft.
-ghost use Rattle.std.specs.Prelude.{◌≡◌, ◌≤◌, ◌↔◌, OnOk, IfErr, IfSome, IsTrue, All, length, count_by};
-ghost use Rattle.net_parts.specs.Limits.{most_links};
+ghost use Rattle.std.specs.Prelude.{◌≡◌, ◌*◌, ◌≤◌, ◌↔◌, OnOk, IfErr, IfSome, IsTrue, All, length, count_by};
+ghost use Rattle.net_parts.specs.Limits.{most_links, most_nodes};
 ghost use Rattle.foundation.specs.Firsts.{IsFirstAt, IsFirstNot, FromOne};
 ghost use Rattle.phase_plan.specs.Phases.{is_unmarked};
 ghost use Rattle.net_build.specs.Outcome.{Checks, HasOptions};
 ghost use Rattle.net_parts.specs.FirstFaults.{IsNodeFault, IsLinkFault, FailsBounds, Refuses};
-ghost use Rattle.net_parts.specs.Bounds.{IsNameByte, IsName, IsActStep, IsRun, HasCounts, IsUnmarkedCount, HasNodeBounds, HasYieldBounds, HasWalkBounds, HasLinkBounds, IsBoundedPhase, IsBoundedNode, IsBoundedTurn, IsBoundedLink, IsBounded};
+ghost use Rattle.net_parts.specs.Bounds.{IsNameByte, IsName, IsActStep, IsRun, HasCounts, HasRun, IsUnmarkedCount, HasNodeBounds, HasYieldBounds, HasWalkBounds, HasLinkBounds, IsBoundedPhase, IsBoundedNode, IsBoundedTurn, IsBoundedLink, IsBounded};
 
 use net_parts::{
-    Draft, DraftLink, DraftNode, DraftPhase, DraftTurn, DraftYield, NetFault, Place, Run, Section,
-    Walk,
+    Draft, DraftLink, DraftNode, DraftPhase, DraftTurn, DraftYield, Limits, MOST_ROUNDS,
+    MOST_SECONDS, NetFault, Place, Run, Section, Walk,
 };
 
 /// Tests the bounds of a draft. The fault is `Bound` at the first place where one does not hold.
@@ -23,7 +23,7 @@ pub fn check_bounds(draft: &Draft) -> Result<(), NetFault>
     if !has_counts(draft) {
         return Err(bound(Section::Top, 0, 0));
     }
-    if !is_run(&draft.run) {
+    if !has_run(draft) {
         return Err(bound(Section::Run, 0, 0));
     }
     check_nodes(draft.nodes.as_slice())?;
@@ -41,9 +41,19 @@ fn bound(part: Section, item: u32, sub: u32) -> NetFault
 fn has_counts(draft: &Draft) -> bool
     ensures { IsTrue result ↔ HasCounts draft.now }
 {
-    (1..=64).contains(&draft.nodes.len())
-        && (1..=320).contains(&draft.links.len())
-        && draft.conflicts.len() <= 1024
+    let most = Limits::of(draft.great);
+    (1..=most.nodes as usize).contains(&draft.nodes.len())
+        && (1..=most.links as usize).contains(&draft.links.len())
+        && draft.conflicts.len() <= most.conflicts as usize
+}
+
+/// Whether the run of a draft is within its bounds, and has no more rounds than the draft may have.
+fn has_run(draft: &Draft) -> bool
+    ensures { IsTrue result ↔ HasRun draft.now }
+{
+    let is_run = is_run(&draft.run);
+    let most = Limits::of(draft.great);
+    is_run && draft.run.rounds <= most.rounds
 }
 
 /// Whether the numbers of the run are within their bounds.
@@ -51,12 +61,21 @@ fn is_run(run: &Run) -> bool
     ensures { IsTrue result ↔ IsRun run.now }
 {
     let has_options = has_options(run);
+    let seconds = seconds_of(run);
     (1..=30).contains(&run.step)
         && (10..=180).contains(&run.look)
         && run.step <= run.look
         && run.gap <= 10
-        && (1..=600).contains(&run.rounds)
+        && (1..=MOST_ROUNDS).contains(&run.rounds)
+        && seconds <= u64::from(MOST_SECONDS)
         && has_options
+}
+
+/// The seconds of the whole run.
+fn seconds_of(run: &Run) -> u64
+    ensures { result ≡ run.now.rounds * run.now.step }
+{
+    u64::from(run.rounds) * u64::from(run.step)
 }
 
 /// Whether what the run may have beside them is.
@@ -81,7 +100,7 @@ fn is_act_step(step: u32, act_step: u32) -> bool
 
 /// Tests each node, and names the first fault of the first that is out of its bounds.
 fn check_nodes(nodes: &[DraftNode]) -> Result<(), NetFault>
-    requires { length nodes.now ≤ 64 }
+    requires { length nodes.now ≤ most_nodes }
     ensures { Checks (All IsBoundedNode nodes.now)
         (λ place. FromOne
         (IsFirstAt IsBoundedNode (λ n. IsNodeFault n place.part place.sub) nodes.now) place.item) result }
@@ -113,7 +132,7 @@ fn has_node_bounds(node: &DraftNode) -> bool
         && is_unmarked_count(node.free_ring, unmarked)
 }
 
-/// Whether so many phases of a ring may be unmarked: two or more, and none where the ring may be free.
+/// Whether so many phases of a ring may be unmarked: two or more, or none where the ring may be free.
 fn is_unmarked_count(free_ring: bool, count: usize) -> bool
     ensures { IsTrue result ↔ IsUnmarkedCount free_ring count }
 {

@@ -1,6 +1,6 @@
 //! Numbers for the names of a draft.
 ghost use Rattle.std.specs.Prelude.{◌≡◌, ◌≢◌, ◌≤◌, ◌<◌, [], Some, IfOk, IfErr, IfSome, OnOk, All, Contains, length, map, count_by};
-ghost use Rattle.net_parts.specs.Limits.{most_links};
+ghost use Rattle.net_parts.specs.Limits.{most_conflicts, most_links, most_nodes};
 ghost use Rattle.foundation.specs.Firsts.{IsFirstAt, IsFirstNot, FromOne};
 ghost use Rattle.foundation.specs.Options.{each};
 ghost use Rattle.phase_plan.specs.Phases.{is_unmarked};
@@ -137,7 +137,7 @@ fn lists_by_names(alloc: Global, names: &Tables, draft: &Draft) -> Result<Lists,
 
 /// Adds the names of the nodes, no two the same.
 fn add_node_names(alloc: Global, nodes: &[DraftNode], names: &mut Names) -> Result<(), NetFault>
-    requires few { length nodes.now ≤ 64 }
+    requires few { length nodes.now ≤ most_nodes }
     requires none { names.old ≡ [] }
     ensures { AreAdded Section.Node (map (λ n. n.name) nodes.now) names.new result }
 {
@@ -208,7 +208,7 @@ fn numbers(alloc: Global, names: &Names, texts: &[Text], place: Place) -> Result
 /// The links of each phase of each node.
 #[tactic(auto, unfolding(crate::specs::Stages::greens_of))]
 fn greens(alloc: Global, names: &Names, nodes: &[DraftNode]) -> Result<PhaseLists, NetFault>
-    requires few { length nodes.now ≤ 64 }
+    requires few { length nodes.now ≤ most_nodes }
     requires bounds { All IsBoundedNode nodes.now }
     ensures { Makes (λ lists. (lists.serves.items, lists.also.items)) result (greens_of names.now nodes.now)
         (λ place. (place.part ≡ Section.Phase)
@@ -397,7 +397,7 @@ fn conflicts(
     names: &Names,
     conflicts: &[DraftConflict],
 ) -> Result<Vec<(u32, u32)>, NetFault>
-    requires { length conflicts.now ≤ 1024 }
+    requires { length conflicts.now ≤ most_conflicts }
     ensures { Makes (λ pairs. pairs.items) result (each (spec.conflict_of names.now) conflicts.now)
         (λ place. (place.part ≡ Section.Conflict) × (place.sub ≡ 0)
         × FromOne (IsFirstNot (IsKnownConflict names.now) conflicts.now) place.item) }

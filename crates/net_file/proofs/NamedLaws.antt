@@ -14,6 +14,9 @@ use Rattle.net_parts.specs.Bounds.{IsBounded, IsBoundedNode, IsBoundedPhase, IsB
 use Rattle.net_parts.specs.Numbers.{Net, AreDistinct, no_link, number_of, number_if, yield_names, yield_sat, plan_of, phases_of, also_of, link_of, turn_of, turns_of, yields_of, conflict_of, roads_of, node_names, link_names, numbered}
 use Rattle.net_parts.specs.Outline.{IsOutline, IsLink, AreTurns, ArePhaseLinks, IsYieldSat, also_at, link_at, turns_at, yields_at, plan_at, phases_at}
 use Rattle.net_parts.specs.Parts.{IsNetOf}
+use Rattle.net_parts.specs.Limits.{limits}
+use Rattle.net_parts.specs.declared.limits.Limits.{Limits}
+use Rattle.net_file.specs.Upgrade.{IsSmall}
 use Rattle.net_parts.proofs.DraftParts.{IsNumbered, number_of-own}
 use Rattle.net_file.specs.ByNames.{name_in, AreNumbers, yield_by_names, phase_by_names, node_by_names, turn_by_names, link_by_names, conflict_by_names, draft_by_names}
 use Rattle.net_file.proofs.ReadingLaws.{each-range, each-own, map-range, All-range, count_by-map}
@@ -61,7 +64,12 @@ count-of_ring third zero not_one may = inr (elim may [ inl is ↦ is | inr fille
 count-of_ring third (suc zero) not_one may = absurd (not_one refl)
 count-of_ring third (suc (suc n)) not_one may = inl (omega arith)
 
-module _ (net : Net) (ok : IsOutline net) (third : Bool) (rings : (third ≡ true) ⊎ All (λ plan. is_free plan ≡ false) net.plans) where
+-- a count of a network, where the file says version 3, or else where the network is not great
+count-within : (of : Limits → ℕ) (third : Bool) (count : ℕ) → (third ≡ true) ⊎ (count ≤ of (limits false)) → count ≤ of (limits true) → count ≤ of (limits third)
+count-within of true count may most = most
+count-within of false count may most = elim may [ inl is ↦ absurd (true≢false (sym is)) | inr few ↦ few ]
+
+module _ (net : Net) (ok : IsOutline net) (third : Bool) (rings : (third ≡ true) ⊎ All (λ plan. is_free plan ≡ false) net.plans) (small : (third ≡ true) ⊎ IsSmall net) where
   -- the links of the phases of a node
   lists-numbers : (n : ℕ) → n < length net.node_names → All (ArePhaseLinks (length net.link_names)) (phases_at net n)
   lists-numbers n h = let inside : n < length net.phase_links = omega (arith, ok.phases_count) in ok.phase_links n [] inside
@@ -237,15 +245,29 @@ module _ (net : Net) (ok : IsOutline net) (third : Bool) (rings : (third ≡ tru
     turns = All-map IsBoundedTurn (turn_by_names net.link_names) (turns_at net l) (turning l h).shares;
   }
 
+  -- its counts are those that such a file may have
+  nodes-within : length net.node_names ≤ (limits third).nodes
+  nodes-within = count-within (λ (l : Limits). l.nodes) third (length net.node_names) (elim small [ inl is ↦ inl is | inr few ↦ inr few.nodes ]) ok.node_count.1
+
+  links-within : length net.link_names ≤ (limits third).links
+  links-within = count-within (λ (l : Limits). l.links) third (length net.link_names) (elim small [ inl is ↦ inl is | inr few ↦ inr few.links ]) ok.link_count.1
+
+  conflicts-within : length net.conflicts ≤ (limits third).conflicts
+  conflicts-within = count-within (λ (l : Limits). l.conflicts) third (length net.conflicts) (elim small [ inl is ↦ inl is | inr few ↦ inr few.conflicts ]) ok.conflict_count
+
+  rounds-within : net.run.rounds ≤ (limits third).rounds
+  rounds-within = count-within (λ (l : Limits). l.rounds) third net.run.rounds (elim small [ inl is ↦ inl is | inr few ↦ inr few.rounds ]) ok.run.rounds.1
+
   bounded : IsBounded (draft_by_names net third)
   unfolding draft_by_names
   bounded = record {
     counts = record {
-      nodes = rw (length-map-range_with_len (node_by_names net third) 0 (length net.node_names)) ok.node_count;
-      links = rw (length-map-range_with_len (link_by_names net) 0 (length net.link_names)) ok.link_count;
-      conflicts = rw length-map ok.conflict_count;
+      nodes = rw (length-map-range_with_len (node_by_names net third) 0 (length net.node_names)) (ok.node_count.0, nodes-within);
+      links = rw (length-map-range_with_len (link_by_names net) 0 (length net.link_names)) (ok.link_count.0, links-within);
+      conflicts = rw length-map conflicts-within;
     };
     run = ok.run;
+    rounds = rounds-within;
     nodes = All-range IsBoundedNode (node_by_names net third) (length net.node_names) node-bounded;
     links = All-range IsBoundedLink (link_by_names net) (length net.link_names) link-bounded;
   }

@@ -44,7 +44,7 @@ top-filled version d known says {m5 = m5} said run nodes links conflicts empty =
     let (ms, there, read) = bind-some (as_table run.data_of) run_of d.run (run.reads.read version tt) in
     let top = top-read version run.data_of nodes.items links.items conflicts.items ms said.fits there in
     subst (λ ms. AreMembersOf 5 version ms d) (sym is) (record {
-      form = rw (top, read, nodes.are.read version says.nodes, links.are.read version says.links, conflicts.are.read version (λ k e h. tt)) refl;
+      form = rw (top, read, nodes.are.read version says.nodes, links.are.read version says.links, conflicts.are.read version (λ k e h. tt)) (λ i. Some (record { run = d.run; nodes = d.nodes; links = d.links; conflicts = d.conflicts; great = sym says.great i }));
       said = top-version version run.data_of nodes.items links.items conflicts.items;
       known = rw top known;
       depth = top-depth version run.data_of nodes.items links.items conflicts.items run.reads.depth nodes.are.depth links.are.depth conflicts.are.depth;

@@ -9,12 +9,12 @@ use Rattle.net_file.proofs.NamedLaws.{named}
 use Rattle.net_file.proofs.ReadingLaws.{All-range}
 use Rattle.net_file.specs.Written.{IsTextOfDraft, Says, SaysPhase, SaysNode, SaysLink}
 use Rattle.road_net.specs.Network.{IsNetwork, IsNetworkOf}
-use Rattle.net_file.specs.Upgrade.{IsPlain, IsVersionOf, IsUpgraded}
+use Rattle.net_file.specs.Upgrade.{IsPlain, IsSmall, IsVersionOf, IsUpgraded}
 
 -- the network is the one of its draft by names
-pub own-draft : (net : Net) → IsNetwork net → (third : Bool) → (third ≡ true) ⊎ All (λ plan. is_free plan ≡ false) net.plans → IsNetworkOf (draft_by_names net third) net
-own-draft net is third rings =
-    let (bounds, names) = named net is.outline third rings in
+pub own-draft : (net : Net) → IsNetwork net → (third : Bool) → (third ≡ true) ⊎ All (λ plan. is_free plan ≡ false) net.plans → (third ≡ true) ⊎ IsSmall net → IsNetworkOf (draft_by_names net third) net
+own-draft net is third rings small =
+    let (bounds, names) = named net is.outline third rings small in
     record { bounds = bounds; node_names = names.node_names; link_names = names.link_names; numbers = names.numbers; joins = is.joins }
 
 module _ (net : Net) (ok : IsOutline net) (plain : IsPlain net) where
@@ -42,6 +42,7 @@ module _ (net : Net) (ok : IsOutline net) (plain : IsPlain net) where
   second = record {
     nodes = All-range (SaysNode 2) (node_by_names net false) (length net.node_names) node-second;
     links = All-range (SaysLink 2) (link_by_names net) (length net.link_names) link-second;
+    great = refl;
   }
 
 -- version 3 can say it
@@ -54,6 +55,7 @@ unfolding draft_by_names
 third net = record {
   nodes = All-range (SaysNode 3) (node_by_names net true) (length net.node_names) (λ n h. node-third net n);
   links = λ k d h. inl refl;
+  great = refl;
 }
 
 -- the least version can
@@ -70,6 +72,13 @@ rings-least net version least = elim least [
   | inr is ↦ inl (rw is.0 refl)
 ]
 
+-- which is great in version 3 alone
+small-least : (net : Net) (version : ℕ) → IsVersionOf net version → ((version == 3) ≡ true) ⊎ IsSmall net
+small-least net version least = elim least [
+  | inl is ↦ inr is.1.small
+  | inr is ↦ inl (rw is.0 refl)
+]
+
 -- it is 2 or 3
 pub known-least : (net : Net) (version : ℕ) → IsVersionOf net version → (2 ≤ version) × (version ≤ 3)
 known-least net version least = elim least [
@@ -82,7 +91,7 @@ upgraded bytes draft net version is least same text = record {
   network = record {
     draft = draft;
     text = record { utf8 = text.utf8; table = text.table; toml = text.toml; form = text.form; version = text.known };
-    network = rw same (own-draft net is (version == 3) (rings-least net version least));
+    network = rw same (own-draft net is (version == 3) (rings-least net version least) (small-least net version least));
   };
   table = text.table;
   toml = text.toml;

@@ -57,11 +57,12 @@ link_by_names net l = record {
 abbrev pub conflict_by_names : List (List ℕ) → ℕ × ℕ → DraftConflict
 conflict_by_names names pair = record { a = name_in names pair.0; b = name_in names pair.1 }
 
--- the draft with the names of the network for its numbers, in such a file
+-- the draft with the names of the network for its numbers, in a file of version 3 or of another one
 unfoldable pub draft_by_names : Net → Bool → Draft
 draft_by_names net third = record {
   run = net.run;
   nodes = map (node_by_names net third) (range_with_len 0 (length net.node_names));
   links = map (link_by_names net) (range_with_len 0 (length net.link_names));
   conflicts = map (conflict_by_names net.link_names) net.conflicts;
+  great = third;
 }

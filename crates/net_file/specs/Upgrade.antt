@@ -1,13 +1,22 @@
 -- What is written of a network.
-use Rattle.std.specs.Prelude.{◌≡◌, ℕ, ◌⊎◌, false, codes, pos, List, [], Some, None, All}
+use Rattle.std.specs.Prelude.{◌≡◌, ℕ, ◌≤◌, ◌⊎◌, false, codes, pos, List, [], Some, None, All, length}
 use Rattle.toml.specs.Data.{Members, integer, get_member}
 use Rattle.toml.specs.Parse.{parse_document}
 use Rattle.phase_plan.specs.Phases.{is_free}
+use Rattle.net_parts.specs.Limits.{limits}
 use Rattle.net_parts.specs.Numbers.{Net}
 use Rattle.net_file.specs.NetworkText.{IsNetworkText}
 
--- what version 2 can say: no phase names a further link, no link gives way to another one or has a walk, and no ring is free
+-- a network that is not great: it has no more nodes, links, conflicts and rounds than files of every version may have
+pub record IsSmall (net : Net) : Type 0 where
+  pub nodes : length net.node_names ≤ (limits false).nodes
+  pub links : length net.link_names ≤ (limits false).links
+  pub conflicts : length net.conflicts ≤ (limits false).conflicts
+  pub rounds : net.run.rounds ≤ (limits false).rounds
+
+-- what version 2 can say: no phase names a further link, no link gives way to another one or has a walk, no ring is free, and the network is not great
 pub record IsPlain (net : Net) : Type 0 where
+  pub small : IsSmall net
   pub also : All (λ phases. All (λ links. links ≡ []) phases) net.also_links
   pub yields : All (λ links. links ≡ []) net.yields
   pub walks : All (λ l. l.walk ≡ None) net.links

@@ -26,10 +26,11 @@ pub record SaysNode (version : ℕ) (n : DraftNode) : Type 0 where
 abbrev pub SaysLink : ℕ → DraftLink → Type 0
 SaysLink version l = (version ≡ 3) ⊎ ((version ≡ 2) × (l.yields ≡ None) × (l.walk ≡ None))
 
--- a draft can stand in a file of this version
+-- a draft can stand in a file of this version: its counts may be those of a great network in version 3 and in no other
 pub record Says (version : ℕ) (d : Draft) : Type 0 where
   pub nodes : All (SaysNode version) d.nodes
   pub links : All (SaysLink version) d.links
+  pub great : d.great ≡ (version == 3)
 
 -- what can stand in every file
 abbrev pub Always : {X : Type 0} → ℕ → X → Type 0

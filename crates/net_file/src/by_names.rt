@@ -31,6 +31,7 @@ pub(crate) fn draft_by_names(alloc: Global, parts: &Parts, third: bool) -> Resul
         nodes: Items::from_vec(nodes),
         links: Items::from_vec(links),
         conflicts: Items::from_vec(conflicts),
+        great: third,
     })
 }
 

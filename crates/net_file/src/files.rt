@@ -4,13 +4,13 @@ ghost use Rattle.net_parts.specs.Numbers.{Net};
 ghost use Rattle.net_tables.specs.Faults.{Unless};
 ghost use Rattle.net_file.specs.NetworkText.{IsNetworkText, IsCause};
 ghost use Rattle.net_file.specs.Reading.{Drafts};
-ghost use Rattle.net_file.specs.Upgrade.{IsPlain, IsVersionOf, IsUpgraded};
+ghost use Rattle.net_file.specs.Upgrade.{IsPlain, IsSmall, IsVersionOf, IsUpgraded};
 ghost use Rattle.net_parts.specs.Parts.{net_of};
 
 use crate::by_names::draft_by_names;
 use foundation::items::Items;
 use net_build::build;
-use net_parts::{Draft, NetFault, Parts, Place, Section};
+use net_parts::{Draft, Limits, NetFault, Parts, Place, Section};
 use net_tables::{has_known_version, read_draft};
 use road_net::Network;
 use std::alloc::{AllocError, Global};
@@ -61,7 +61,7 @@ fn parse_draft(alloc: Global, bytes: &[u8]) -> Result<Draft, NetFault>
 }
 
 /// The network file of a network, of the least version that can say it: 2, or 3 where a phase names a further link, a link gives way or
-/// has a walk, or a ring is free. It has every mark and weight, and of what else may be absent `split` where it is true, `age`, `hold`, `recall`,
+/// has a walk, a ring is free, or there are more than 64 nodes, 320 links, 1024 conflicts or 600 rounds. It has every mark and weight, and of what else may be absent `split` where it is true, `age`, `hold`, `recall`,
 /// `act_step`, `rate`, the ends of links, yields and walks where the network has them, and an array where it is not empty. What is read from it is
 /// this very network, with the same value of every accessor. `Err`: out of memory.
 ///
@@ -86,6 +86,7 @@ fn version_of(parts: &Parts) -> u32
 fn is_plain(parts: &Parts) -> bool
     ensures { IsTrue result ↔ IsPlain (net_of parts.now) }
 {
+    let is_small = is_small(parts);
     let names_none = parts
         .also_links
         .iter()
@@ -94,6 +95,18 @@ fn is_plain(parts: &Parts) -> bool
         && parts.yields.iter().all(|links| links.as_slice().is_empty())
         && parts.links.iter().all(|link| link.walk.is_none())
         && parts.plans.iter().all(|plan| !plan.is_free())
+        && is_small
+}
+
+/// Whether it has no more nodes, links, conflicts and rounds than files of every version may have.
+fn is_small(parts: &Parts) -> bool
+    ensures { IsTrue result ↔ IsSmall (net_of parts.now) }
+{
+    let most = Limits::of(false);
+    parts.node_names.len() <= most.nodes
+        && parts.link_names.len() <= most.links
+        && parts.conflicts.len() <= most.conflicts as usize
+        && parts.run.rounds <= most.rounds
 }
 
 /// Whether none of these phases names a link.

@@ -1,6 +1,6 @@
 -- The bounds of what is in a draft.
-use Rattle.std.specs.Prelude.{◌≡◌, ℕ, ◌%◌, ◌≤◌, ◌⊎◌, Bool, IsTrue, IfSome, List, length, count_by, All}
-use Rattle.net_parts.specs.Limits.{most_links, most_look, most_sat, most_travel}
+use Rattle.std.specs.Prelude.{◌≡◌, ℕ, ◌*◌, ◌%◌, ◌≤◌, ◌⊎◌, Bool, IsTrue, IfSome, List, length, count_by, All}
+use Rattle.net_parts.specs.Limits.{most_look, most_rounds, most_sat, most_seconds, most_travel, limits}
 use Rattle.phase_plan.specs.Phases.{IsPhase, is_unmarked}
 use Rattle.net_parts.specs.declared.drafts.Run.{Run}
 use Rattle.net_parts.specs.declared.drafts.Draft.{Draft}
@@ -25,13 +25,14 @@ pub record IsActStep (step act_step : ℕ) : Type 0 where
   pub bounds : (1 ≤ act_step) × (act_step ≤ 30)
   pub whole : step % act_step ≡ 0
 
--- the numbers of a run, and that a round is no longer than a planning looks ahead
+-- the numbers of a run, that a round is no longer than a planning looks ahead, and that all rounds together have at most the seconds of a day
 pub record IsRun (run : Run) : Type 0 where
   pub step : (1 ≤ run.step) × (run.step ≤ 30)
   pub look : (10 ≤ run.look) × (run.look ≤ most_look)
   pub within : run.step ≤ run.look
   pub gap : run.gap ≤ 10
-  pub rounds : (1 ≤ run.rounds) × (run.rounds ≤ 600)
+  pub rounds : (1 ≤ run.rounds) × (run.rounds ≤ most_rounds)
+  pub seconds : run.rounds * run.step ≤ most_seconds
   pub age : IfSome run.age (λ age. (1 ≤ age) × (age ≤ 3600))
   pub hold : IfSome run.hold (λ hold. (1 ≤ hold) × (hold ≤ 20))
   pub recall : IfSome run.recall (λ recall. (1 ≤ recall) × (recall ≤ 3600))
@@ -44,7 +45,7 @@ pub record IsBoundedPhase (p : DraftPhase) : Type 0 where
   pub links : length p.links ≤ 16
   pub also : length p.also ≤ 16
 
--- how many phases of a ring may be unmarked: two or more, and none where the ring may be free
+-- how many phases of a ring may be unmarked: two or more, or none where the ring may be free
 abbrev pub IsUnmarkedCount : Bool → ℕ → Type 0
 IsUnmarkedCount free_ring count = (2 ≤ count) ⊎ (IsTrue free_ring × (count ≡ 0))
 
@@ -90,13 +91,19 @@ pub record IsBoundedLink (l : DraftLink) : Type 0 where
 
 -- how many nodes, links and conflicts there are
 pub record HasCounts (d : Draft) : Type 0 where
-  pub nodes : (1 ≤ length d.nodes) × (length d.nodes ≤ 64)
-  pub links : (1 ≤ length d.links) × (length d.links ≤ most_links)
-  pub conflicts : length d.conflicts ≤ 1024
+  pub nodes : (1 ≤ length d.nodes) × (length d.nodes ≤ (limits d.great).nodes)
+  pub links : (1 ≤ length d.links) × (length d.links ≤ (limits d.great).links)
+  pub conflicts : length d.conflicts ≤ (limits d.great).conflicts
+
+-- the run of a draft, which has no more rounds than the draft may have
+pub record HasRun (d : Draft) : Type 0 where
+  pub run : IsRun d.run
+  pub rounds : d.run.rounds ≤ (limits d.great).rounds
 
 -- a draft with all in it
 pub record IsBounded (d : Draft) : Type 0 where
   pub counts : HasCounts d
   pub run : IsRun d.run
+  pub rounds : d.run.rounds ≤ (limits d.great).rounds
   pub nodes : All IsBoundedNode d.nodes
   pub links : All IsBoundedLink d.links

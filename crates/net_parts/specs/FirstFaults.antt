@@ -12,7 +12,7 @@ use Rattle.net_parts.specs.declared.faults.Section.{Section}
 use Rattle.net_parts.specs.declared.faults.Section.TheVariants.{Top, Run, Node, Phase, Link, Turn, Conflict}
 use Rattle.net_parts.specs.declared.faults.NetFault.{NetFault}
 use Rattle.net_parts.specs.declared.faults.NetFault.TheVariants.{NoMemory, NotToml, Shape, Bound, Twice, Unknown}
-use Rattle.net_parts.specs.Bounds.{HasCounts, HasNodeBounds, HasLinkBounds, IsRun, IsBoundedPhase, IsBoundedNode, IsBoundedTurn, IsBoundedLink}
+use Rattle.net_parts.specs.Bounds.{HasCounts, HasRun, HasNodeBounds, HasLinkBounds, IsBoundedPhase, IsBoundedNode, IsBoundedTurn, IsBoundedLink}
 use Rattle.net_parts.specs.Numbers.{AreDistinct, node_names, link_names, yield_names}
 
 -- the first fault within a node: of its own bounds, or else of its first phase out of bounds
@@ -30,11 +30,11 @@ IsLinkFault l _ sub = ⊥
 -- the first place of a draft that is out of its bounds
 abbrev pub IsBoundFault : Draft → Section → ℕ → ℕ → Type 0
 IsBoundFault d Top item sub = (item ≡ 0) × (sub ≡ 0) × ¬ HasCounts d
-IsBoundFault d Run item sub = (item ≡ 0) × (sub ≡ 0) × HasCounts d × ¬ IsRun d.run
-IsBoundFault d Node item sub = HasCounts d × IsRun d.run × FromOne (IsFirstAt IsBoundedNode (λ n. IsNodeFault n Node sub) d.nodes) item
-IsBoundFault d Phase item sub = HasCounts d × IsRun d.run × FromOne (IsFirstAt IsBoundedNode (λ n. IsNodeFault n Phase sub) d.nodes) item
-IsBoundFault d Link item sub = HasCounts d × IsRun d.run × All IsBoundedNode d.nodes × FromOne (IsFirstAt IsBoundedLink (λ l. IsLinkFault l Link sub) d.links) item
-IsBoundFault d Turn item sub = HasCounts d × IsRun d.run × All IsBoundedNode d.nodes × FromOne (IsFirstAt IsBoundedLink (λ l. IsLinkFault l Turn sub) d.links) item
+IsBoundFault d Run item sub = (item ≡ 0) × (sub ≡ 0) × HasCounts d × ¬ HasRun d
+IsBoundFault d Node item sub = HasCounts d × HasRun d × FromOne (IsFirstAt IsBoundedNode (λ n. IsNodeFault n Node sub) d.nodes) item
+IsBoundFault d Phase item sub = HasCounts d × HasRun d × FromOne (IsFirstAt IsBoundedNode (λ n. IsNodeFault n Phase sub) d.nodes) item
+IsBoundFault d Link item sub = HasCounts d × HasRun d × All IsBoundedNode d.nodes × FromOne (IsFirstAt IsBoundedLink (λ l. IsLinkFault l Link sub) d.links) item
+IsBoundFault d Turn item sub = HasCounts d × HasRun d × All IsBoundedNode d.nodes × FromOne (IsFirstAt IsBoundedLink (λ l. IsLinkFault l Turn sub) d.links) item
 IsBoundFault d Conflict item sub = ⊥
 
 -- why a draft is out of bounds

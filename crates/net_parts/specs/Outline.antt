@@ -1,7 +1,7 @@
 -- The parts of a network by number, and how many there are.
-use Rattle.std.specs.Prelude.{◌≡◌, ℕ, ◌<◌, ◌≤◌, ◌==◌, Bool, false, ◌||◌, List, [], ◌∷◌, Option, Some, None, IfSome, length, slice_index_or, All}
+use Rattle.std.specs.Prelude.{◌≡◌, ℕ, ◌*◌, ◌<◌, ◌≤◌, ◌==◌, Bool, false, ◌||◌, List, [], ◌∷◌, Option, Some, None, IfSome, length, max, slice_index_or, All}
 use Rattle.std.specs.Option.{option_map, option_map_or}
-use Rattle.net_parts.specs.Limits.{most_links, most_sat, most_travel}
+use Rattle.net_parts.specs.Limits.{most_conflicts, most_links, most_nodes, most_sat, most_travel, small_seconds}
 use Rattle.phase_plan.specs.declared.Phase.{Phase}
 use Rattle.phase_plan.specs.Phases.{IsRing}
 use Rattle.net_parts.specs.declared.roads.Link.{Link}
@@ -70,6 +70,10 @@ node_name_at net n = slice_index_or net.node_names n []
 abbrev pub link_name_at : Net → ℕ → List ℕ
 link_name_at net l = slice_index_or net.link_names l []
 
+-- how many seconds the files of a network may name: as many as its run has, and 18,000 at the least
+abbrev pub known_seconds : Net → ℕ
+known_seconds net = max small_seconds (net.run.rounds * net.run.step)
+
 -- a link of a network with this number of nodes
 pub record IsLink (nodes : ℕ) (l : Link) : Type 0 where
   pub from : IfSome l.from (λ n. n < nodes)
@@ -99,7 +103,7 @@ IsYieldSat (_ ∷ _) sat = 1 ≤ sat
 -- The counts and bounds of a network: every list has its place for each node or link, and numbers are those of nodes and links.
 pub record IsOutline (net : Net) : Type 0 where
   pub run : IsRun net.run
-  pub node_count : (1 ≤ length net.node_names) × (length net.node_names ≤ 64)
+  pub node_count : (1 ≤ length net.node_names) × (length net.node_names ≤ most_nodes)
   pub link_count : (1 ≤ length net.link_names) × (length net.link_names ≤ most_links)
   pub node_names : All IsName net.node_names
   pub nodes_differ : AreDistinct net.node_names
@@ -121,5 +125,5 @@ pub record IsOutline (net : Net) : Type 0 where
   pub yield_count : length net.yields ≡ length net.link_names
   pub yields : All (ArePhaseLinks (length net.link_names)) net.yields
   pub yield_sats : (l : ℕ) → l < length net.link_names → IsYieldSat (yields_at net l) (link_at net l).yield_sat
-  pub conflict_count : length net.conflicts ≤ 1024
+  pub conflict_count : length net.conflicts ≤ most_conflicts
   pub conflicts : All (λ c. (c.0 < length net.link_names) × (c.1 < length net.link_names)) net.conflicts

@@ -16,7 +16,7 @@ pub struct Run {
     pub look: u32,
     /// The empty seconds that a cluster may have between its vehicles, 0 to 10.
     pub gap: u32,
-    /// The number of rounds, 1 to 600.
+    /// The number of rounds, 1 to 600, and 1 to 17,280 in a great network; they have at most 86,400 seconds in all.
     pub rounds: u32,
     /// Whether the first cluster of the standing phase has to end in its green; false where the file does not say it
     /// (docs/RULES.md, "Streets under load", as the two below).
@@ -50,12 +50,14 @@ impl CrossesThreads for Run {}
 pub struct Draft {
     /// How it is run.
     pub run: Run,
-    /// The nodes, 1 to 64 of them, no two with one name.
+    /// The nodes, 1 to 64 of them, no two with one name; 1 to 1024 in a great network.
     pub nodes: Items<DraftNode>,
-    /// The links, 1 to 320 of them, no two with one name.
+    /// The links, 1 to 320 of them, no two with one name; 1 to 8192 in a great network.
     pub links: Items<DraftLink>,
-    /// The conflicts, at most 1024; none where the file has no array of them.
+    /// The conflicts, at most 1024, and at most 32,768 in a great network; none where the file has no array of them.
     pub conflicts: Items<DraftConflict>,
+    /// Whether its counts may be those of a great network: a network file says so by its version 3.
+    pub great: bool,
 }
 
 /// An intersection with a signal.

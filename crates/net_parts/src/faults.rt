@@ -38,7 +38,7 @@ impl CrossesThreads for Place {}
 
 /// Why a file or draft is no network (docs/FORMATS.md, "Places and faults").
 ///
-/// `Shape` to `Unknown` name a place. `Ends` to `Walk` name links, from 0 to 319, and nodes, from 0 to 63,
+/// `Shape` to `Unknown` name a place. `Ends` to `Walk` name links, from 0 to 8191, and nodes, from 0 to 1023,
 /// by their numbers in the order of the file.
 #[derive(Debug, Clone, Copy, PartialEq, Eq)]
 pub enum NetFault {

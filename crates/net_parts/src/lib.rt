@@ -4,6 +4,7 @@
 
 mod drafts;
 mod faults;
+mod limits;
 mod names;
 mod parts;
 mod phases;
@@ -13,6 +14,9 @@ pub use drafts::{
     Draft, DraftConflict, DraftLink, DraftNode, DraftPhase, DraftTurn, DraftYield, Run,
 };
 pub use faults::{NetFault, Place, Section};
+pub use limits::{
+    Limits, MOST_CONFLICTS, MOST_LINKS, MOST_NODES, MOST_ROUNDS, MOST_SECONDS, SMALL_SECONDS,
+};
 pub use names::Names;
 pub use parts::Parts;
 pub use phases::phase_with;

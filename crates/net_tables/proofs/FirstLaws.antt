@@ -11,7 +11,7 @@ use Rattle.foundation.proofs.OptionLaws.{and-some, some-and, bind-none}
 use Rattle.net_tables.specs.Faults.{Misses, Blames}
 use Rattle.net_tables.specs.FirstShape.{ordinal, IsAfterRead, IsFirstUnread, IsNodeFault, IsLinkFault, IsFaultWithin, IsShapeFault}
 use Rattle.net_tables.specs.Reading.{IsFaultAmong, IsNodeAtFault, IsPhaseAtFault, IsLinkAtFault, IsConflictAtFault}
-use Rattle.net_tables.specs.Table.{NodeForm, LinkForm, TopForm, top_form, run_of, node_form, node_of, phase_of, link_own, link_of, turn_of, conflict_of, draft_of}
+use Rattle.net_tables.specs.Table.{NodeForm, LinkForm, TopForm, top_form, run_of, node_form, node_of, phase_of, link_own, link_of, turn_of, conflict_of, draft_of, is_third}
 use Rattle.net_parts.specs.declared.drafts.Draft.{Draft}
 use Rattle.net_parts.specs.declared.drafts.DraftYield.{DraftYield}
 use Rattle.net_parts.specs.declared.faults.NetFault.{NetFault}
@@ -133,7 +133,7 @@ within_top top = do
   nodes ← each (node_of top.version) top.nodes
   links ← each (link_of top.version) top.links
   conflicts ← each conflict_of top.conflicts
-  Some (record { run = run; nodes = nodes; links = links; conflicts = conflicts })
+  Some (record { run = run; nodes = nodes; links = links; conflicts = conflicts; great = is_third top.version })
 
 -- a file with a fault in the tables within it has no draft
 within_top-none : (top : TopForm) (part : Section) (item sub : ℕ) → IsFaultWithin top part item sub → within_top top ≡ None

@@ -145,7 +145,7 @@ run_of ms = do
   rate ← optional_number_at (codes "rate") ms
   Some (record { step = step; look = look; gap = gap; rounds = rounds; split = split; age = age; hold = hold; recall = recall; act_step = act_step; rate = rate })
 
--- whether a file says version 3, and so may name further greens of phases, yields and walks, and have free rings
+-- whether a file says version 3, and so may name further greens of phases, yields and walks, have free rings and the counts of a great network
 abbrev pub is_third : Option ℕ → Bool
 is_third None = false
 is_third (Some version) = version == 3
@@ -332,7 +332,7 @@ draft_of ms = do
   nodes ← each (node_of top.version) top.nodes
   links ← each (link_of top.version) top.links
   conflicts ← each conflict_of top.conflicts
-  Some (record { run = run; nodes = nodes; links = links; conflicts = conflicts })
+  Some (record { run = run; nodes = nodes; links = links; conflicts = conflicts; great = is_third top.version })
 
 -- the file has no version, or it is 2 or 3
 abbrev pub IsKnown : Option ℕ → Type 0

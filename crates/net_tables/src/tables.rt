@@ -50,6 +50,7 @@ pub fn read_draft(alloc: Global, table: &Table) -> Result<Draft, NetFault>
         nodes: Items::from_vec(nodes),
         links: Items::from_vec(links),
         conflicts: Items::from_vec(conflicts),
+        great: is_third(top.version),
     })
 }
 

@@ -5,7 +5,8 @@ use Rattle.std.proofs.lemmas.List.{take_more, map_push, append-nil}
 use Rattle.std.proofs.lemmas.List.Folds.{concat-append}
 use Rattle.net_parts.specs.declared.roads.Link.{Link}
 use Rattle.road_net.specs.declared.joins.Side.{Side}
-use Rattle.road_net.specs.Joins.{node_at, is_node, links_from}
+use Rattle.road_net.specs.Joins.{node_at, is_node, links_from, AreByNode}
+use Rattle.road_net.specs.Stored.{IsPushedAt}
 
 -- one link, where it has the node at this side
 abbrev pub one_if : Bool → ℕ → List ℕ
@@ -29,12 +30,15 @@ module _ (side : Side) (node : ℕ) where
       let at : 0 + length (take i ls) ≡ i = omega (arith, length-take i ls) in
       rw (take_more ls i d h) (links_from-push 0 (take i ls) (get_or ls i d) ∙ ap (λ n. links_from side node 0 (take i ls) ++ one_if (is_node node (node_at side (get_or ls i d))) n) at)
 
--- the two ways of a loop's step
-pub one_if-true : (b : Bool) (i : ℕ) (old new seen : List ℕ) → b ≡ true → old ≡ seen → new ≡ old ++ i ∷ [] → new ≡ seen ++ one_if b i
-one_if-true b i old new seen yes_is same pushed = rw (yes_is, ← same) pushed
-
-pub one_if-false : (b : Bool) (i : ℕ) (old new seen : List ℕ) → b ≡ false → old ≡ seen → new ≡ old → new ≡ seen ++ one_if b i
-one_if-false b i old new seen no_is same kept = rw (no_is, append-nil, ← same) kept
+-- a loop's step: the link at i goes to the list of its node
+pub by_node-more : (side : Side) (links : List Link) (i : ℕ) (d : Link) (nodes : ℕ) (lists new : List (List ℕ)) → i < length links → AreByNode side (take i links) nodes lists → IsPushedAt (node_at side (get_or links i d)) i lists new → AreByNode side (take (i + 1) links) nodes new
+by_node-more side links i d nodes lists new inside are pushed = record {
+  count = pushed.count ∙ are.count;
+  each = λ n there.
+      pushed.each n (omega (arith, there, are.count))
+      ∙ ap (λ l. l ++ one_if (is_node n (node_at side (get_or links i d))) i) (are.each n there)
+      ∙ sym (links_from-more side n links i d inside);
+}
 
 -- one more list at the end
 pub concat-push : (xs : List (List ℕ)) (x : List ℕ) → concat (xs ++ x ∷ []) ≡ concat xs ++ x

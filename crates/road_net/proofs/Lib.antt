@@ -1,5 +1,7 @@
+pub mod Also
 pub mod Apart
 pub mod AtSide
+pub mod Counting
 pub mod Ends
 pub mod Everywhere
 pub mod FirstFaults

@@ -16,7 +16,7 @@ two_within f xs i j d less h =
     let same : f (get_or (take j xs) i d) ≡ f (get_or xs i d) = ap f (get_or-take j xs i d less) in
     omega (arith, first, same, sum_by_more_le f xs j d h)
 
-two_apart : {X : Type 0} (f : X → ℕ) (xs : List X) (i j : ℕ) (d : X) → i ≢ j → i < length xs → j < length xs → f (get_or xs i d) + f (get_or xs j d) ≤ sum_by f xs
+pub two_apart : {X : Type 0} (f : X → ℕ) (xs : List X) (i j : ℕ) (d : X) → i ≢ j → i < length xs → j < length xs → f (get_or xs i d) + f (get_or xs j d) ≤ sum_by f xs
 two_apart f xs i j d other h g = elim (cases_lt i j) [
   | inl less ↦ two_within f xs i j d less g
   | inr more ↦ omega (arith, two_within f xs j i d (omega arith) h)
@@ -43,7 +43,7 @@ module _ (p : ℕ → Bool) where
   count-concat [] = refl
   count-concat (x ∷ xs) = sum_by-append (λ y. cond (p y) 1 0) x (concat xs) ∙ ap (λ n. count_by p x + n) (count-concat xs) ∙ sym (sum_by-cons (λ ys. count_by p ys) x xs)
 
-  count-named : (xs : List (List (List ℕ))) → count_by p (concat (map concat xs)) ≡ sum_by in_lists xs
+  pub count-named : (xs : List (List (List ℕ))) → count_by p (concat (map concat xs)) ≡ sum_by in_lists xs
   count-named [] = refl
   count-named (x ∷ xs) =
       sum_by-append (λ y. cond (p y) 1 0) (concat x) (concat (map concat xs)) ∙ ap (λ n. count_by p (concat x) + n) (count-named xs)
@@ -53,11 +53,11 @@ module _ (p : ℕ → Bool) where
   count-at : (xs : List ℕ) (i : ℕ) → i < length xs → p (get_or xs i 0) ≡ true → 1 ≤ count_by p xs
   count-at xs i h is = one_passes (p (get_or xs i 0)) _ is (get_or-le-sum_by (λ y. cond (p y) 1 0) xs i 0 h)
 
-  count-any : (xs : List ℕ) → list_any p xs ≡ true → 1 ≤ count_by p xs
+  pub count-any : (xs : List ℕ) → list_any p xs ≡ true → 1 ≤ count_by p xs
   count-any xs any = let (i, h, is) = list_any-found p xs any in count-at xs i h is
 
   -- in a list of a list of lists
-  count-in : (xs : List (List ℕ)) (k : ℕ) → k < length xs → 1 ≤ count_by p (get_or xs k []) → 1 ≤ in_lists xs
+  pub count-in : (xs : List (List ℕ)) (k : ℕ) → k < length xs → 1 ≤ count_by p (get_or xs k []) → 1 ≤ in_lists xs
   count-in xs k h some = omega (arith, get_or-le-sum_by (λ ys. count_by p ys) xs k [] h)
 
 pub same_link : (a b : ℕ) → a ≡ b → (a == b) ≡ true

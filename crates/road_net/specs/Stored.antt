@@ -1,5 +1,5 @@
 -- What the fields of the code stand for, and what its steps answer. No public clause names these words.
-use Rattle.std.specs.Prelude.{◌≡◌, ℕ, ◌<◌, ◌≤◌, List, [], Result, Ok, Err, length, slice_index_or}
+use Rattle.std.specs.Prelude.{◌≡◌, ℕ, ◌<◌, ◌≤◌, ◌==◌, if◌then◌else◌, List, [], ◌∷◌, ◌++◌, Option, Result, Ok, Err, length, count_by, slice_index_or}
 use Rattle.foundation.specs.Firsts.{IsFirstWithout}
 use Rattle.net_parts.specs.declared.faults.NetFault.{NetFault}
 use Rattle.net_parts.specs.declared.faults.NetFault.TheVariants.{NoMemory, Clash}
@@ -9,7 +9,7 @@ use Rattle.road_net.specs.declared.joins.Side.TheVariants.{From, To}
 use Rattle.net_parts.specs.Numbers.{Net}
 use Rattle.net_parts.specs.Parts.{net_of}
 use Rattle.road_net.specs.FirstFaults.{IsJoinFault}
-use Rattle.road_net.specs.Joins.{AreByNode, conflict_at}
+use Rattle.road_net.specs.Joins.{is_node, AreByNode, conflict_at}
 use Rattle.road_net.specs.Network.{IsNetwork, IsJoined}
 
 -- a network with the lists of links of each node
@@ -42,3 +42,13 @@ clash_at conflicts place = Clash (conflict_at conflicts place).0 (conflict_at co
 -- the list of links of this node is not too long
 abbrev pub HasFewAt : List (List ℕ) → ℕ → Type 0
 HasFewAt lists node = length (slice_index_or lists node []) ≤ 16
+
+-- the number is at the end of the list of this node, and no other list has changed
+pub record IsPushedAt (node : Option ℕ) (number : ℕ) (old new : List (List ℕ)) : Type 0 where
+  pub count : length new ≡ length old
+  pub each : (n : ℕ) → n < length old → slice_index_or new n [] ≡ slice_index_or old n [] ++ (if is_node n node then number ∷ [] else [])
+
+-- how often each of this number of links is among those that are named
+pub record AreTimes (named : List ℕ) (links : ℕ) (times : List ℕ) : Type 0 where
+  pub count : length times ≡ links
+  pub each : (l : ℕ) → l < links → slice_index_or times l 0 ≡ count_by (λ m. m == l) named

@@ -1,16 +1,17 @@
 //! How the parts of a network are joined.
-ghost use Rattle.std.specs.Prelude.{◌≡◌, ◌≢◌, ◌≤◌, ◌<◌, ◌^◌, ◌↔◌, IsTrue, IfOk, OnOk, IfSome, ◌++◌, Some, [], All, AllPairs, length, slice_index_or, sum_by};
-ghost use Rattle.std.specs.List.{concat};
-ghost use Rattle.net_parts.specs.Limits.{most_links};
+ghost use Rattle.std.specs.Prelude.{◌≡◌, ◌≢◌, ◌≤◌, ◌<◌, ◌^◌, ◌↔◌, ℕ, IsTrue, IfOk, OnOk, IfSome, ◌++◌, ◌∷◌, Some, [], All, AllPairs, length, replicate, slice_index_or, sum_by};
+ghost use Rattle.net_parts.specs.Limits.{most_links, most_nodes};
 ghost use Rattle.net_parts.specs.Outline.{IsOutline};
 ghost use Rattle.net_parts.specs.Parts.{net_of};
-ghost use Rattle.road_net.specs.Stored.{TestsEach, clash_at, HasFewAt};
-ghost use Rattle.road_net.specs.Joins.{HasEndsAt, link_at, node_at, is_node, links_of_node, AreByNode, HasShares, HasSharesAt, share_of, named_links, IsPhased, IsPhasedAt, IsConflict, IsConflictAt};
+ghost use Rattle.road_net.specs.Stored.{TestsEach, clash_at, HasFewAt, IsPushedAt};
+ghost use Rattle.road_net.specs.Joins.{HasEndsAt, link_at, node_at, AreByNode, HasShares, HasSharesAt, share_of, times_named, IsPhased, IsPhasedAt, IsConflict, IsConflictAt};
 
 use crate::greens::are_never_both;
+use crate::times::times_named;
 use foundation::items::Items;
 use net_parts::{Link, NetFault, Parts, Turn, phase_with};
 use std::alloc::{AllocError, Global};
+use std::mem;
 
 /// A side of a link.
 #[derive(Clone, Copy)]
@@ -42,50 +43,77 @@ pub(crate) fn links_by_node(
     requires { length links.now ≤ most_links }
     ensures { IfOk result (λ lists. AreByNode side links.now nodes lists.items) }
 {
-    let mut lists = Vec::new(alloc);
-    for node in 0..nodes {
-        let list = links_of_node(alloc, links, node, side)?;
-        lists.push(Items::from_vec(list))?;
+    let mut lists = empty_lists(alloc, nodes)?;
+    for (index, link) in links.iter().enumerate() {
+        push_at(alloc, &mut lists, node_at(link, side), index as u32)?;
     }
     Ok(lists)
 }
 
-/// The links that have the node at this side, in number order.
-fn links_of_node(
-    alloc: Global,
-    links: &[Link],
-    node: u32,
-    side: Side,
-) -> Result<Vec<u32>, AllocError>
-    requires { length links.now ≤ most_links }
-    ensures { IfOk result (λ numbers. numbers.items ≡ links_of_node side links.now node) }
+/// A list for each of this number of nodes, all of them empty.
+fn empty_lists(alloc: Global, nodes: u32) -> Result<Vec<Items<u32>>, AllocError>
+    ensures { IfOk result (λ lists. lists.items ≡ replicate nodes []) }
 {
-    let mut numbers = Vec::new(alloc);
-    for (index, link) in links.iter().enumerate() {
-        if has_node(link, side, node) {
-            numbers.push(index as u32)?;
-        }
+    let mut lists = Vec::new(alloc);
+    for node in 0..nodes {
+        lists.push(Items::from_vec(Vec::new(alloc)))?;
     }
-    Ok(numbers)
+    Ok(lists)
 }
 
-/// Whether the link has the node at this side.
-fn has_node(link: &Link, side: Side, node: u32) -> bool
-    ensures { result ≡ is_node node (node_at side link.now) }
+/// The node at this side of a link.
+fn node_at(link: &Link, side: Side) -> Option<u32>
+    ensures { result ≡ node_at side link.now }
 {
-    let end = match side {
+    match side {
         Side::From => link.from,
         Side::To => link.to,
-    };
-    match end {
-        Some(other) => other == node,
-        None => false,
     }
+}
+
+/// Appends a number to the list of the node, where there is one with a list.
+fn push_at(
+    alloc: Global,
+    lists: &mut Vec<Items<u32>>,
+    node: Option<u32>,
+    number: u32,
+) -> Result<(), AllocError>
+    ensures { OnOk result (IsPushedAt node number lists.old.items lists.new.items) }
+{
+    let Some(node) = node else {
+        return Ok(());
+    };
+    let place = node as usize;
+    if place >= lists.len() {
+        return Ok(());
+    }
+    push_number(alloc, lists, place, number)
+}
+
+/// Appends a number to the list in this place.
+fn push_number(
+    alloc: Global,
+    lists: &mut Vec<Items<u32>>,
+    place: usize,
+    number: u32,
+) -> Result<(), AllocError>
+    requires { place < length lists.old.items }
+    ensures count { OnOk result (length lists.new.items ≡ length lists.old.items) }
+    ensures here { OnOk result
+        (slice_index_or lists.new.items place [] ≡ slice_index_or lists.old.items place [] ++ number ∷ []) }
+    ensures others { OnOk result ((k : ℕ) → k ≢ place
+        → slice_index_or lists.new.items k [] ≡ slice_index_or lists.old.items k []) }
+{
+    let list = mem::replace(&mut lists[place], Items::from_vec(Vec::new(alloc)));
+    let mut numbers = list.into_vec();
+    numbers.push(number)?;
+    lists[place] = Items::from_vec(numbers);
+    Ok(())
 }
 
 /// Tests that no list has more than 16 links. The node of the first that has is named.
 pub(crate) fn check_entries(entry_links: &[Items<u32>]) -> Result<(), NetFault>
-    requires { length entry_links.now ≤ 64 }
+    requires { length entry_links.now ≤ most_nodes }
     ensures { TestsEach NetFault.Crowd (HasFewAt entry_links.now) (length entry_links.now) result }
 {
     for (index, links) in entry_links.iter().enumerate() {
@@ -172,49 +200,27 @@ pub(crate) fn check_phases(
     requires phases { All (λ phases. length phases ≤ 4) phase_links.now }
     ensures { TestsEach NetFault.Phaseless (IsPhasedAt links.now phase_links.now) (length links.now) result }
 {
-    let named = named_links(alloc, phase_links)?;
+    let times = times_named(alloc, phase_links, links.len())?;
     for (index, link) in links.iter().enumerate() {
-        if !is_phased(named.as_slice(), phase_links, index as u32, link.to) {
+        if !is_phased(times[index], phase_links, index as u32, link.to) {
             return Err(NetFault::Phaseless(index as u32));
         }
     }
     Ok(())
 }
 
-/// Whether phases name the link as they must.
-fn is_phased(named: &[u32], phase_links: &[Items<Items<u32>>], link: u32, to: Option<u32>) -> bool
-    requires named { named.now ≡ named_links phase_links.now }
+/// Whether phases that name the link so often name it as they must.
+fn is_phased(times: usize, phase_links: &[Items<Items<u32>>], link: u32, to: Option<u32>) -> bool
+    requires times { times ≡ times_named phase_links.now link }
     requires node { IfSome to (λ node. node < length phase_links.now) }
     requires phases { All (λ phases. length phases ≤ 4) phase_links.now }
     ensures { IsTrue result ↔ IsPhased phase_links.now link to }
 {
-    let times = named.iter().filter(|other| **other == link).count();
     match to {
         Some(node) => times == 1
             && phase_with(phase_links[node as usize].as_slice(), link).is_some(),
         None => times == 0,
     }
-}
-
-/// All links that phases name, phase by phase.
-fn named_links(alloc: Global, phase_links: &[Items<Items<u32>>]) -> Result<Vec<u32>, AllocError>
-    ensures { IfOk result (λ named. named.items ≡ named_links phase_links.now) }
-{
-    let mut named = Vec::new(alloc);
-    for phases in phase_links {
-        push_links(&mut named, phases.as_slice())?;
-    }
-    Ok(named)
-}
-
-/// Adds the links of these phases at the end.
-fn push_links(named: &mut Vec<u32>, phases: &[Items<u32>]) -> Result<(), AllocError>
-    ensures { OnOk result (named.new.items ≡ named.old.items ++ concat phases.now) }
-{
-    for links in phases {
-        named.extend_from_slice(links.as_slice())?;
-    }
-    Ok(())
 }
 
 /// Tests that the links of each conflict end at one node and have no green in common. The first conflict whose links do

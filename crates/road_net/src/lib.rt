@@ -14,11 +14,12 @@ mod joins;
 mod overlaps;
 mod senses;
 mod splits;
+mod times;
 
 use foundation::items::Items;
 use foundation::threads::CrossesThreads;
 use joins::Side;
-use net_parts::Parts;
+use net_parts::{Parts, SMALL_SECONDS};
 pub use net_parts::{
     Draft, DraftConflict, DraftLink, DraftNode, DraftPhase, DraftTurn, DraftYield, Link, NetFault,
     Place, Run, Section, Turn, Walk,
@@ -59,7 +60,7 @@ impl Network {
     ghost use Rattle.net_parts.specs.Numbers.{number_of};
     ghost use Rattle.net_parts.specs.Parts.{net_of};
     ghost use Rattle.road_net.specs.Joins.{split_of, AreLinksAt, AreParts};
-    ghost use Rattle.net_parts.specs.Outline.{link_at, turns_at, yields_at, plan_at, phases_at, phase_links_at, also_links_at, is_green_in, node_name_at, link_name_at};
+    ghost use Rattle.net_parts.specs.Outline.{link_at, turns_at, yields_at, plan_at, phases_at, phase_links_at, also_links_at, is_green_in, known_seconds, node_name_at, link_name_at};
     ghost use Rattle.road_net.specs.Network.{IsNetwork, entry_links, exit_links, AreApart};
     ghost use Rattle.road_net.specs.Totals.{total};
     ghost use Rattle.road_net.specs.Through.{is_through};
@@ -82,7 +83,18 @@ impl Network {
         self.parts.run
     }
 
-    /// How many nodes there are, 1 to 64.
+    /// How many seconds the files of the network may name: as many as its run has, and 18,000 at the least.
+    ///
+    /// docs/FORMATS.md, "Arrivals file".
+    pub fn known_seconds(&self) -> u32
+        ensures value { result ≡ known_seconds self.now }
+        ensures network { IsNetwork self.now }
+    {
+        let run = self.parts.run;
+        (run.rounds * run.step).max(SMALL_SECONDS)
+    }
+
+    /// How many nodes there are, 1 to 1024.
     pub fn nodes(&self) -> u32
         ensures value { result ≡ length self.now.node_names }
         ensures network { IsNetwork self.now }
@@ -90,7 +102,7 @@ impl Network {
         self.parts.node_names.len()
     }
 
-    /// How many links there are, 1 to 320.
+    /// How many links there are, 1 to 8192.
     pub fn links(&self) -> u32
         ensures value { result ≡ length self.now.link_names }
         ensures network { IsNetwork self.now }
@@ -232,7 +244,7 @@ impl Network {
         splits::split(self.turns(l), amount, exit)
     }
 
-    /// The pairs of links that must never be green together, at most 1024, in the order of the file.
+    /// The pairs of links that must never be green together, at most 32,768, in the order of the file.
     ///
     /// docs/RULES.md, "Conflicts".
     pub fn conflicts(&self) -> &[(u32, u32)]
@@ -355,16 +367,16 @@ fn check_joins(alloc: Global, parts: &Parts, entry: &[Items<u32>]) -> Result<(),
     joins::check_entries(entry)?;
     joins::check_shares(links, parts.turns.as_slice())?;
     joins::check_phases(alloc, links, parts.phase_links.as_slice())?;
-    check_overlaps(parts)
+    check_overlaps(alloc, parts)
 }
 
 /// Tests further greens, conflicts, links that give way and walks, in this order, where homes are as they must be.
-fn check_overlaps(parts: &Parts) -> Result<(), NetFault>
+fn check_overlaps(alloc: Global, parts: &Parts) -> Result<(), NetFault>
     requires outline { IsOutline (net_of parts.now) }
     requires homed { IsHomed (net_of parts.now) }
     ensures { Passes (net_of parts.now) result }
 {
-    overlaps::check_also(parts)?;
+    overlaps::check_also(alloc, parts)?;
     joins::check_conflicts(parts)?;
     overlaps::check_yields(parts)?;
     overlaps::check_walks(parts)

@@ -1,43 +1,70 @@
 //! Further greens, links that give way, and walks.
-ghost use Rattle.std.specs.Prelude.{◌≡◌, ◌≢◌, ◌≤◌, ◌<◌, ◌+◌, ◌==◌, ◌↔◌, ℕ, IsTrue, IfSome, MatchOption, Some, [], All, AllPairs, length, count_by, slice_index_or};
+ghost use Rattle.std.specs.Prelude.{◌≡◌, ◌≢◌, ◌≤◌, ◌<◌, ◌+◌, ◌==◌, ◌↔◌, ℕ, IsTrue, IfSome, MatchOption, Some, [], All, AllPairs, length, count_by, slice_index_or, sum_by};
 ghost use Rattle.net_parts.specs.Numbers.{has_link};
 ghost use Rattle.net_parts.specs.Outline.{IsOutline, yields_at, also_links_at, plan_at};
 ghost use Rattle.net_parts.specs.Parts.{net_of};
 ghost use Rattle.road_net.specs.Stored.{TestsEach};
-ghost use Rattle.road_net.specs.Joins.{link_at, IsFurther, IsAlso, GivesWay, IsYield, HasLongGreens, IsWalk};
+ghost use Rattle.road_net.specs.Joins.{link_at, times_named, IsFurther, IsAlso, GivesWay, IsYield, HasLongGreens, IsWalk};
 
 use crate::greens::{are_never_both, is_green};
+use crate::times::times_named;
 use foundation::items::Items;
 use net_parts::{NetFault, Parts};
+use std::alloc::Global;
 
 /// Tests that phases name each link also as they may. The first that they do not name so is named.
-pub(crate) fn check_also(parts: &Parts) -> Result<(), NetFault>
+pub(crate) fn check_also(alloc: Global, parts: &Parts) -> Result<(), NetFault>
     requires { IsOutline (net_of parts.now) }
     ensures { TestsEach NetFault.Also (IsAlso (net_of parts.now)) (length parts.now.links.items) result }
 {
+    let times = times_named(alloc, parts.also_links.as_slice(), parts.links.len())?;
     for l in 0..parts.link_names.len() {
-        if !is_also(parts, l) {
+        if !is_also(parts, times[l as usize], l) {
             return Err(NetFault::Also(l));
         }
     }
     Ok(())
 }
 
-/// Whether phases name the link also as they may.
-fn is_also(parts: &Parts, l: u32) -> bool
+/// Whether phases that name the link also so often do so as they may.
+fn is_also(parts: &Parts, times: usize, l: u32) -> bool
     requires outline { IsOutline (net_of parts.now) }
     requires link { l < length parts.now.link_names }
+    requires times { times ≡ times_named parts.now.also_links.items l }
     ensures { IsTrue result ↔ IsAlso (net_of parts.now) l }
 {
-    for n in 0..parts.node_names.len() {
-        if !is_also_at(parts, l, n) {
-            return false;
-        }
+    match parts.links[l as usize].to {
+        Some(node) => is_also_there(parts, times, l, node),
+        None => times == 0,
     }
-    true
 }
 
-/// Whether the phases of a node do.
+/// Whether they do, where the link ends at this node: they are phases of the node, and each may.
+fn is_also_there(parts: &Parts, times: usize, l: u32, node: u32) -> bool
+    requires outline { IsOutline (net_of parts.now) }
+    requires link { l < length parts.now.link_names }
+    requires times { times ≡ times_named parts.now.also_links.items l }
+    requires node { (link_at parts.now.links.items l).to ≡ Some node }
+    ensures { IsTrue result ↔ IsAlso (net_of parts.now) l }
+{
+    let own = are_all(parts.also_links[node as usize].as_slice(), l, times);
+    let each = is_also_at(parts, l, node);
+    own && each
+}
+
+/// Whether these lists name the link so often together.
+fn are_all(lists: &[Items<u32>], l: u32, count: usize) -> bool
+    requires { sum_by (λ links. count_by (λ m. m == l) links) lists.now ≤ count }
+    ensures { IsTrue result ↔ (sum_by (λ links. count_by (λ m. m == l) links) lists.now ≡ count) }
+{
+    let mut rest = count;
+    for links in lists {
+        rest -= times(links.as_slice(), l);
+    }
+    rest == 0
+}
+
+/// Whether the phases of a node name the link also as they may.
 fn is_also_at(parts: &Parts, l: u32, n: u32) -> bool
     requires outline { IsOutline (net_of parts.now) }
     requires link { l < length parts.now.link_names }

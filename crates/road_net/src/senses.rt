@@ -23,7 +23,7 @@ pub struct LinkSense {
 /// docs/RULES.md, "What a node sees".
 #[derive(Drop)]
 pub struct Sensed {
-    /// The second, at most 18,000.
+    /// The second, at most 86,400.
     pub now: u32,
     /// One for each entry link of the node, in the order of the links' numbers.
     pub links: Items<LinkSense>,

@@ -1,5 +1,5 @@
 use Rattle.road_net.proofs.Ends.{concat-map-more}
-use Rattle.road_net.proofs.joins.named_links.Goals as goal
+use Rattle.road_net.proofs.times.named_links.Goals as goal
 
 pub loop-phases-preserved : goal.loop-phases-preserved
 loop-phases-preserved c =

@@ -1,6 +1,6 @@
 use Rattle.std.proofs.Common.{append_assoc}
 use Rattle.road_net.proofs.Ends.{concat-more}
-use Rattle.road_net.proofs.joins.push_links.Goals as goal
+use Rattle.road_net.proofs.times.push_links.Goals as goal
 
 pub loop-links-preserved : goal.loop-links-preserved
 loop-links-preserved c =

@@ -1,6 +1,6 @@
 use Rattle.std.proofs.Common.{◌≡◌, map, take}
 use Rattle.std.specs.List.{concat}
-use Rattle.road_net.proofs.joins.named_links.Given as goal
+use Rattle.road_net.proofs.times.named_links.Given as goal
 
 -- the links of the phases of the nodes so far
 abbrev pub invariant-loop-phases : goal.invariant-loop-phases

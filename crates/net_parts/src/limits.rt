@@ -1,0 +1,64 @@
+//! How great the numbers of a network, and of a run of it, may be, as the code tests them; `specs/Limits.antt` has them for contracts.
+ghost use Rattle.std.specs.Prelude.{◌≡◌};
+ghost use Rattle.net_parts.specs.Limits.{limits};
+
+use foundation::threads::CrossesThreads;
+
+/// The most nodes of a network.
+///
+/// docs/FORMATS.md, "Network file", as all that follow.
+pub const MOST_NODES: u32 = 1024;
+
+/// The most links of a network.
+pub const MOST_LINKS: u32 = 8192;
+
+/// The most conflicts of a network.
+pub const MOST_CONFLICTS: u32 = 32_768;
+
+/// The most rounds of a run.
+pub const MOST_ROUNDS: u32 = 17_280;
+
+/// The most seconds of a run: a day.
+pub const MOST_SECONDS: u32 = 86_400;
+
+/// How many seconds the files of every network may name, however short its run is.
+pub const SMALL_SECONDS: u32 = 18_000;
+
+/// How many nodes, links, conflicts and rounds there may be.
+#[derive(Debug, Clone, Copy, PartialEq, Eq)]
+pub struct Limits {
+    /// The most nodes.
+    pub nodes: u32,
+    /// The most links.
+    pub links: u32,
+    /// The most conflicts.
+    pub conflicts: u32,
+    /// The most rounds.
+    pub rounds: u32,
+}
+
+impl CrossesThreads for Limits {}
+
+impl Limits {
+    /// The limits of a great network: 1024 nodes, 8192 links, 32,768 conflicts and 17,280 rounds; and of one that is not: 64, 320,
+    /// 1024 and 600.
+    pub fn of(great: bool) -> Limits
+        ensures { result ≡ limits great }
+    {
+        if great {
+            Limits {
+                nodes: MOST_NODES,
+                links: MOST_LINKS,
+                conflicts: MOST_CONFLICTS,
+                rounds: MOST_ROUNDS,
+            }
+        } else {
+            Limits {
+                nodes: 64,
+                links: 320,
+                conflicts: 1024,
+                rounds: 600,
+            }
+        }
+    }
+}
