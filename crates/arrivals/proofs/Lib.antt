@@ -1,5 +1,6 @@
 pub mod FaultLaws
 pub mod FieldLaws
-pub mod SumLaws
-pub mod TallyLaws
+pub mod JoinLaws
+pub mod RowLaws
+pub mod SecondLaws
 pub mod TextLaws

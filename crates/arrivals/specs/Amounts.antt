@@ -1,45 +1,55 @@
--- What arrivals are: an amount for each link and second.
-use Rattle.std.specs.Prelude.{◌≡◌, ℕ, ◌+◌, ◌-◌, ◌*◌, ◌≤◌, ◌<◌, nat_le, nat_lt, ◌&&◌, if◌then◌else◌, Bool, List, length, slice_index_or}
+-- What arrivals are: rows in order, and an amount for each link and second.
+use Rattle.std.specs.Prelude.{◌≡◌, ℕ, ◌+◌, ◌<◌, ◌≤◌, ◌==◌, List, [], ◌∷◌, length, filter, sum_by, All, AllPairs}
+use Rattle.net_parts.specs.Limits.{most_of_all}
 use Rattle.net_parts.specs.Numbers.{Net}
+use Rattle.net_parts.specs.Outline.{known_seconds}
 use Rattle.road_net.specs.Totals.{total}
 use Rattle.arrivals.specs.declared.rows.ArrivalRow.{ArrivalRow}
-use Rattle.net_parts.specs.Limits.{most_of_all, most_seconds}
-use Rattle.arrivals.specs.Rows.{IsSource, AreRows, arriving_by}
+use Rattle.arrivals.specs.Rows.{IsSource, AreRows, amount_of, arriving_by}
 
--- The links that are kept, `width` ones from the first on, and their amounts in the first seconds, second by second. Nothing
--- enters after these seconds, and no other link is entered.
+-- The rows that are kept, in the order of seconds and, within a second, of links.
 pub record Amounts : Type 0 where
-  pub first : ℕ
-  pub width : ℕ
-  pub amounts : List ℕ
+  pub rows : List ArrivalRow
 
--- whether a link is kept
-abbrev pub is_kept : Amounts → ℕ → Bool
-is_kept a link = nat_le a.first link && nat_lt link (a.first + a.width)
-
--- the place of a kept link and a second
-abbrev pub place : Amounts → ℕ → ℕ → ℕ
-place a link second = second * a.width + (link - a.first)
-
--- what enters a link in a second; nothing where the link is not kept, and nothing after the amounts or the last second
+-- what enters a link in a second: the amount of the row with both, and nothing where there is none
 abbrev pub arriving_of : Amounts → ℕ → ℕ → ℕ
-arriving_of a second link = if is_kept a link && nat_lt second most_seconds then slice_index_or a.amounts (place a link second) 0 else 0
+arriving_of a second link = arriving_by a.rows second link
 
--- Each source of the network is one of these links, and the first and the last of them are sources.
-pub record KeepsSources (net : Net) (first width : ℕ) : Type 0 where
-  pub links : first + width ≤ length net.link_names
-  pub all : (link : ℕ) → IsSource net link → (first ≤ link) × (link < first + width)
-  pub ends : 0 < width → IsSource net first × IsSource net (first + width - 1)
+-- the second of a row is before that of another, or it is the same and the link is lower
+pub record IsBefore (r s : ArrivalRow) : Type 0 where
+  pub seconds : r.second ≤ s.second
+  pub links : r.second ≡ s.second → r.link < s.link
 
--- The arrivals of rows: the rows are lawful, what enters a link in a second is their sum, and no more links are kept than are
--- from the first source to the last.
+-- Rows in order, of which no two have one second and link; each brings something, and all together no more than they may.
+pub record AreKept (rows : List ArrivalRow) : Type 0 where
+  pub order : AllPairs IsBefore rows
+  pub least : All (λ r. 1 ≤ r.amount) rows
+  pub few : sum_by amount_of rows ≤ most_of_all
+
+-- what rows bring to a link, whatever their seconds
+abbrev pub amount_to : List ArrivalRow → ℕ → ℕ
+amount_to rows link = sum_by amount_of (filter (λ r. r.link == link) rows)
+
+-- the links of rows rise, and none is below this one
+abbrev pub AreRising : ℕ → List ArrivalRow → Type 0
+AreRising first [] = Unit {0}
+AreRising first (r ∷ rs) = (first ≤ r.link) × AreRising (r.link + 1) rs
+
+-- The arrivals of rows: the rows are lawful, what enters a link in a second is their sum, and there is at most one kept row for
+-- each second and link.
 pub record AreArrivalsOf (net : Net) (rows : List ArrivalRow) (a : Amounts) : Type 0 where
   pub lawful : AreRows net rows
-  pub kept : KeepsSources net a.first a.width
+  pub kept : AreKept a.rows
   pub sums : (link second : ℕ) → arriving_of a second link ≡ arriving_by rows second link
 
--- Arrivals at a network: they enter links that come from no node alone, and all together are no more than they may be.
+-- the row's link comes from no node, and files may name its second
+pub record IsEntry (net : Net) (r : ArrivalRow) : Type 0 where
+  pub source : IsSource net r.link
+  pub second : r.second < known_seconds net
+
+-- Arrivals at a network: they enter links that come from no node alone, in seconds that files may name, and all together are no
+-- more than they may be.
 pub record AreArrivals (net : Net) (a : Amounts) : Type 0 where
-  pub links : a.first + a.width ≤ length net.link_names
+  pub rows : All (IsEntry net) a.rows
   pub sources : (link second : ℕ) → 0 < arriving_of a second link → IsSource net link
   pub few : (n : ℕ) → total (λ x. total (arriving_of a x) (length net.links)) n ≤ most_of_all

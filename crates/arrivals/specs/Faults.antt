@@ -20,7 +20,7 @@ IsAtLink net r = ¬ IsSource net r.link
 
 -- a row with a source, that is out of its bounds
 abbrev pub IsAtBound : Net → ArrivalRow → Type 0
-IsAtBound net r = IsSource net r.link × ¬ HasBounds r
+IsAtBound net r = IsSource net r.link × ¬ HasBounds net r
 
 -- a lawful row with which, after these rows, all bring more than they may
 abbrev pub IsAtSum : Net → List ArrivalRow → ArrivalRow → Type 0

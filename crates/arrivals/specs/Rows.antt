@@ -1,8 +1,8 @@
 -- Rows of arrivals: which are lawful, and what they bring.
 use Rattle.std.specs.Prelude.{◌≡◌, ℕ, ◌≤◌, ◌<◌, ◌==◌, ◌&&◌, Bool, List, None, length, filter, sum_by, All}
-use Rattle.net_parts.specs.Limits.{most_of_all, most_seconds}
+use Rattle.net_parts.specs.Limits.{most_of_all}
 use Rattle.net_parts.specs.Numbers.{Net}
-use Rattle.net_parts.specs.Outline.{link_at}
+use Rattle.net_parts.specs.Outline.{link_at, known_seconds}
 use Rattle.arrivals.specs.declared.rows.ArrivalRow.{ArrivalRow}
 
 -- the most that one row may bring
@@ -14,16 +14,16 @@ pub record IsSource (net : Net) (link : ℕ) : Type 0 where
   pub exists : link < length net.link_names
   pub outside : (link_at net link).from ≡ None
 
--- the second and the amount of a row
-pub record HasBounds (r : ArrivalRow) : Type 0 where
-  pub second : r.second < most_seconds
+-- the second of a row is one that files may name, and its amount is within its bounds
+pub record HasBounds (net : Net) (r : ArrivalRow) : Type 0 where
+  pub second : r.second < known_seconds net
   pub least : 1 ≤ r.amount
   pub most : r.amount ≤ most_of_row
 
 -- a lawful row
 pub record IsRow (net : Net) (r : ArrivalRow) : Type 0 where
   pub source : IsSource net r.link
-  pub bounds : HasBounds r
+  pub bounds : HasBounds net r
 
 -- what a row brings
 abbrev pub amount_of : ArrivalRow → ℕ

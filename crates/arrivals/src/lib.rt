@@ -2,10 +2,13 @@
 #![tactic(auto)]
 
 mod amounts;
+mod checks;
 mod fields;
+mod joining;
+mod row_lists;
 mod rows;
 mod texts;
 
-pub use amounts::Arrivals;
+pub use amounts::{Arrivals, next_amount};
 pub use rows::{ArrivalRow, RowFault};
 pub use texts::read_arrivals;

@@ -1,13 +1,13 @@
 //! Rows of arrivals, and their faults.
 use foundation::threads::CrossesThreads;
-use std::alloc::AllocError;
+use std::alloc::{AllocError, AllocFailed};
 
 /// Vehicles that enter a link in a second.
 ///
 /// docs/RULES.md, "Arrivals".
 #[derive(Debug, Clone, Copy, PartialEq, Eq)]
 pub struct ArrivalRow {
-    /// The second, 0 to 17,999.
+    /// The second, 0 to 17,999, or to the last one of the run where that is later.
     pub second: u32,
     /// The number of the link, which comes from no node.
     pub link: u32,
@@ -30,7 +30,7 @@ pub enum RowFault {
     Row(u32),
     /// The link is none of the network, or comes from a node.
     Link(u32),
-    /// The second is above 17,999, or the amount is not 1 to 1,000,000.
+    /// The second is above 17,999 and not in the run, or the amount is not 1 to 1,000,000.
     Bound(u32),
     /// With this row the amounts add up to more than 2,000,000,000.
     Sum(u32),
@@ -45,6 +45,17 @@ impl From<AllocError> for RowFault {
     ghost from_gives = { λ _ fault. fault ≡ NoMemory };
 
     fn from(_error: AllocError) -> RowFault {
+        RowFault::NoMemory
+    }
+}
+
+impl<T: Drop> From<AllocFailed<T>> for RowFault {
+    ghost use Rattle.std.specs.Prelude.{◌≡◌};
+    ghost use Rattle.arrivals.specs.declared.rows.RowFault.TheVariants.{NoMemory};
+
+    ghost from_gives = { λ _ fault. fault ≡ NoMemory };
+
+    fn from(_error: AllocFailed<T>) -> RowFault {
         RowFault::NoMemory
     }
 }

@@ -5,10 +5,11 @@ ghost use Rattle.arrivals.specs.Texts.{IsArrivalText, IsTextFault};
 
 use crate::amounts::Arrivals;
 use crate::fields::read_row;
+use crate::row_lists::RowList;
 use crate::rows::RowFault;
 use csv::ByteRecord;
 use record_text::{RecordTaker, is_record, take_records};
-use road_net::Network;
+use road_net::{Network, law_of_network};
 use std::alloc::Global;
 
 /// The arrivals of a file, whose links stand by their names in the network.
@@ -24,16 +25,16 @@ pub fn read_arrivals(alloc: Global, bytes: &[u8], net: &Network) -> Result<Arriv
         → (a : Amounts) → ¬ IsArrivalText net.now bytes.now a) }
     ensures first { IfErr result (IsTextFault net.now bytes.now) }
 {
-    let mut arrivals = Arrivals::none(alloc, net);
-    arrivals.reserve(net)?;
-    match take_records(alloc, bytes, net, &mut arrivals) {
-        Ok(true) => Ok(arrivals),
+    law_of_network(net);
+    let mut list = RowList::new(alloc);
+    match take_records(alloc, bytes, net, &mut list) {
+        Ok(true) => Ok(list.into_arrivals(alloc)?),
         Ok(false) => Err(RowFault::Header),
         Err(fault) => Err(fault),
     }
 }
 
-impl RecordTaker for Arrivals {
+impl RecordTaker for RowList {
     ghost use Rattle.arrivals.specs.Records as records;
     ghost use Rattle.arrivals.specs.Stored.{HasRead, IsFaultAt};
 

@@ -11,6 +11,7 @@ use Rattle.switch_rules.specs.Bounds.{greatest_weight}
 use Rattle.switch_rules.specs.Sequences.{cluster_at}
 use Rattle.switch_rules.specs.Serving.{IsCluster}
 use Rattle.switch_rules.specs.declared.Head.{Head}
+use Rattle.net_parts.specs.Limits.{most_seconds}
 use Rattle.net_parts.specs.Numbers.{Net}
 use Rattle.net_parts.specs.Outline.{phase_links_at, plan_at}
 use Rattle.road_net.specs.Network.{IsNetwork}
@@ -28,7 +29,7 @@ use Rattle.clusters.proofs.PlatoonLaws.{ArePhases, aged-sound, phases-clusters, 
 
 -- what is asked leaves the platoons of a phase what planning and forecasting ask
 pub asked-sound : (age : Option ℕ) (rate : ℕ) (split : Option Head) (net : Net) (node phase : ℕ) (sensed : Sensed) (heard : List Heard) (list : List Platoon)
-    → IsNetwork net → sensed.now ≤ 18000 → node < length net.node_names → phase < length (plan_at net node) → IsAge age
+    → IsNetwork net → sensed.now ≤ most_seconds → node < length net.node_names → phase < length (plan_at net node) → IsAge age
     → ArePlatoonsAsked age rate split net node phase sensed heard list → AreSoundOf net node phase sensed.now list
 asked-sound age rate split net node phase sensed heard list h early there exists ok are =
     aged-sound age net.run.gap rate
@@ -71,7 +72,7 @@ plain-are net node sensed heard lists i h e = record {
   each = λ k lt. asked-plain net node k sensed heard (platoons_at lists k) (h.each k (omega (arith, h.count)));
 }
 
-pub plain-sound : (net : Net) (node : ℕ) (sensed : Sensed) (heard : List Heard) (lists : List (List Platoon)) (i : ℕ) → IsNetwork net → sensed.now ≤ 18000 → node < length net.node_names
+pub plain-sound : (net : Net) (node : ℕ) (sensed : Sensed) (heard : List Heard) (lists : List (List Platoon)) (i : ℕ) → IsNetwork net → sensed.now ≤ most_seconds → node < length net.node_names
     → ArePlain net node sensed heard lists i → i ≡ length (plan_at net node) → (k : ℕ) → k < length lists → AreSoundOf net node k sensed.now (platoons_at lists k)
 plain-sound net node sensed heard lists i h early there are e k lt =
     asked-sound None 0 None net node k sensed heard (platoons_at lists k) h early there (omega (arith, are.count, e)) tt (are.each k (omega (arith, are.count)))
@@ -169,7 +170,7 @@ held-length net head k list = tested (k == head.phase)
 
 -- What is expected of a phase of a network is what planning and forecasting ask, whatever the network asks beside the rules.
 pub expected-sound : (net : Net) (node k : ℕ) (head : Head) (sensed : Sensed) (heard : List Heard) (list : List Platoon)
-    → IsNetwork net → sensed.now ≤ 18000 → node < length net.node_names → k < length (plan_at net node)
+    → IsNetwork net → sensed.now ≤ most_seconds → node < length net.node_names → k < length (plan_at net node)
     → AreExpectedIn net node head sensed k (streams_of net sensed heard (phase_links_at net node k)) list → AreSoundOf net node k sensed.now list
 expected-sound net node k head sensed heard list h early there exists e =
     subst (AreSoundOf net node k sensed.now) (sym e.held)
@@ -178,20 +179,20 @@ expected-sound net node k head sensed heard list h early there exists e =
 
 -- and so of all its phases
 pub expected-each : (net : Net) (node : ℕ) (head : Head) (sensed : Sensed) (heard : List Heard) (lists : List (List Platoon))
-    → IsNetwork net → sensed.now ≤ 18000 → node < length net.node_names → AreExpected net node head sensed heard lists
+    → IsNetwork net → sensed.now ≤ most_seconds → node < length net.node_names → AreExpected net node head sensed heard lists
     → (k : ℕ) → k < length lists → AreSoundOf net node k sensed.now (platoons_at lists k)
 expected-each net node head sensed heard lists h early there are k lt = expected-sound net node k head sensed heard (platoons_at lists k) h early there (omega (arith, are.count)) (are.each k lt)
 
 pub expected-node : (net : Net) (node : ℕ) (head : Head) (sensed : Sensed) (heard : List Heard) (lists : List (List Platoon))
-    → IsNetwork net → sensed.now ≤ 18000 → node < length net.node_names → AreExpected net node head sensed heard lists → AreOfNode net node sensed.now lists
+    → IsNetwork net → sensed.now ≤ most_seconds → node < length net.node_names → AreExpected net node head sensed heard lists → AreOfNode net node sensed.now lists
 expected-node net node head sensed heard lists h early there are = phases-node net node sensed.now lists are.count (expected-each net node head sensed heard lists h early there are)
 
 pub expected-clusters : (net : Net) (node : ℕ) (head : Head) (sensed : Sensed) (heard : List Heard) (lists : List (List Platoon))
-    → IsNetwork net → sensed.now ≤ 18000 → node < length net.node_names → AreExpected net node head sensed heard lists → All AreSpacedClusters (cluster_lists lists)
+    → IsNetwork net → sensed.now ≤ most_seconds → node < length net.node_names → AreExpected net node head sensed heard lists → All AreSpacedClusters (cluster_lists lists)
 expected-clusters net node head sensed heard lists h early there are = phases-clusters net node sensed.now lists (expected-each net node head sensed heard lists h early there are)
 
 pub expected-rising : (net : Net) (node : ℕ) (head : Head) (sensed : Sensed) (heard : List Heard) (lists : List (List Platoon))
-    → IsNetwork net → sensed.now ≤ 18000 → node < length net.node_names → AreExpected net node head sensed heard lists → All IsRising lists
+    → IsNetwork net → sensed.now ≤ most_seconds → node < length net.node_names → AreExpected net node head sensed heard lists → All IsRising lists
 expected-rising net node head sensed heard lists h early there are = phases-rising net node sensed.now lists (expected-each net node head sensed heard lists h early there are)
 
 -- what is expected phase by phase

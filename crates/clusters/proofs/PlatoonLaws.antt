@@ -11,6 +11,7 @@ use Rattle.std.proofs.lemmas.Bool.{cases_lt}
 use Rattle.switch_rules.specs.Sequences.{cluster_at}
 use Rattle.switch_rules.specs.Serving.{IsCluster}
 use Rattle.board_model.specs.declared.boards.Heard.{Heard}
+use Rattle.net_parts.specs.Limits.{most_seconds}
 use Rattle.net_parts.specs.Numbers.{Net, no_link}
 use Rattle.net_parts.specs.Outline.{IsOutline, IsLink, ArePhaseLinks, link_at, phases_at, phase_links_at, plan_at}
 use Rattle.road_net.specs.Network.{IsNetwork}
@@ -118,7 +119,7 @@ platoon-parts load net look now first end streams links h order le = record {
   whole = refl;
 }
 
-platoon-cluster : (load : Part → ℕ) (look now first end : ℕ) (streams : List Part) → AreStreams look streams → now ≤ 18000 → look ≤ 180 → first < end → end ≤ look
+platoon-cluster : (load : Part → ℕ) (look now first end : ℕ) (streams : List Part) → AreStreams look streams → now ≤ most_seconds → look ≤ 180 → first < end → end ≤ look
     → 1 ≤ sum_by (brought first) streams → IsLoading load (map (part_of first end) streams) → IsCluster (platoon_within load now streams first end).cluster
 platoon-cluster load look now first end streams h early short lt le filled loads =
     let long : All (λ s. end ≤ length s.amounts) streams = All-weaker (λ s. length s.amounts ≡ look) (λ s. end ≤ length s.amounts) (λ s e. omega (arith, e)) streams h.long in
@@ -151,7 +152,7 @@ arrival-at load now streams runs k lt =
 
 -- Platoons of the runs of a cut, whatever these may span and a part may count.
 pub platoons-made : (load : Part → ℕ) (gap rate : ℕ) (span : ℕ → ℕ) (net : Net) (node phase : ℕ) (sensed : Sensed) (heard : List Heard) (list : List Platoon)
-    → IsNetwork net → sensed.now ≤ 18000 → node < length net.node_names → phase < length (plan_at net node)
+    → IsNetwork net → sensed.now ≤ most_seconds → node < length net.node_names → phase < length (plan_at net node)
     → ((first end : ℕ) → IsLoading load (map (part_of first end) (streams_of net sensed heard (phase_links_at net node phase))))
     → ArePlatoonsBy load gap rate span sensed.now net.run.look (streams_of net sensed heard (phase_links_at net node phase)) list
     → AreSoundOf net node phase sensed.now list
@@ -213,7 +214,7 @@ platoons-made load gap rate span net node phase sensed heard list h early there 
 
 -- so the platoons of a phase of a network, with an age or none, are what planning and forecasting ask
 pub aged-sound : (age : Option ℕ) (gap rate : ℕ) (span : ℕ → ℕ) (net : Net) (node phase : ℕ) (sensed : Sensed) (heard : List Heard) (list : List Platoon)
-    → IsNetwork net → sensed.now ≤ 18000 → node < length net.node_names → phase < length (plan_at net node) → IsAge age
+    → IsNetwork net → sensed.now ≤ most_seconds → node < length net.node_names → phase < length (plan_at net node) → IsAge age
     → ArePlatoonsBy (aged_load_of age net sensed) gap rate span sensed.now net.run.look (streams_of net sensed heard (phase_links_at net node phase)) list
     → AreSoundOf net node phase sensed.now list
 aged-sound age gap rate span net node phase sensed heard list h early there exists ok are =

@@ -19,7 +19,7 @@ use switch_rules::Served;
 /// When the vehicles of these servings will come to the end of an exit link of the node: for each second before
 /// `now` + look, what turns into the exit of all that leaves in time, where that is more than nothing.
 ///
-/// `now` is at most 18,000. The window's platoons are the node's from `now` on, each with a part for each link of its phase,
+/// `now` is at most 86,400. The window's platoons are the node's from `now` on, each with a part for each link of its phase,
 /// in their order, with an amount for each second of at most the link's `sat`. The servings are those of one feasible
 /// sequence of the clusters of `w`, or none at all.
 ///

@@ -1,22 +1,20 @@
 //! Arrivals scaled by a factor, exactly, by cumulative rounding.
 #![tactic(auto)]
 
-ghost use Rattle.std.specs.Prelude.{◌≡◌, ◌+◌, ◌<◌, ◌≤◌, IfOk, OnOk, length};
+ghost use Rattle.std.specs.Prelude.{◌≡◌, ◌+◌, ◌<◌, ◌≤◌, IfOk, OnOk, length, slice_index, slice_set};
 ghost use Rattle.std.specs.Result.{IsErrOf};
-ghost use Rattle.net_parts.specs.Limits.{most_of_all, most_seconds};
-ghost use Rattle.arrivals.specs.Amounts.{AreArrivals, arriving_of};
+ghost use Rattle.net_parts.specs.Limits.{most_of_all};
+ghost use Rattle.net_parts.specs.Outline.{known_seconds};
+ghost use Rattle.arrivals.specs.Amounts.{AreArrivals, IsEntry, arriving_of};
 ghost use Rattle.arrivals.specs.Rows.{IsSource};
-ghost use Rattle.scaled_arrivals.specs.Rows.{Brings, HaveCome};
+ghost use Rattle.scaled_arrivals.specs.Rows.{Brings, HaveCome, next_share};
 ghost use Rattle.scaled_arrivals.specs.Scaling as spec;
 ghost use Rattle.scaled_arrivals.specs.Scaling.{IsScaled, greatest_factor, scaled_whole};
 
 use arrivals::{ArrivalRow, Arrivals, RowFault};
 use foundation::threads::CrossesThreads;
-use road_net::Network;
+use road_net::{Network, law_of_network};
 use std::alloc::{AllocError, Global};
-
-/// The seconds in which something may enter.
-const SECONDS: u32 = 18_000;
 
 /// The most that one row may bring, in thousandths of a vehicle.
 const MOST_OF_ROW: u32 = 1_000_000;
@@ -53,6 +51,7 @@ pub fn scale(
     ensures few { OnOk result (scaled_whole net.now factor (arriving_of arrivals.now) ≤ most_of_all) }
     ensures sum { IsErrOf result ScaleFault.Sum → most_of_all < scaled_whole net.now factor (arriving_of arrivals.now) }
 {
+    law_of_network(net);
     let Ok(rows) = scaled_rows(alloc, net, arrivals, factor) else {
         return Err(ScaleFault::NoMemory);
     };
@@ -77,36 +76,40 @@ fn scaled_rows(
 ) -> Result<Vec<ArrivalRow>, AllocError>
     requires arrivals { AreArrivals net.now arrivals.now }
     requires factor { factor ≤ greatest_factor }
-    ensures { IfOk result (λ rows. HaveCome net.now factor arrivals.now (length net.now.link_names) 0 rows.items) }
+    ensures { IfOk result (λ rows. HaveCome net.now factor arrivals.now.rows rows.items) }
 {
+    let mut entered = vec![in alloc; 0; net.links() as usize]?;
     let mut rows = Vec::new(alloc);
-    for link in 0..net.links() {
-        push_link(net, arrivals, factor, link, &mut rows)?;
+    let coming = arrivals.rows();
+    for row in coming {
+        push_row(net, row, factor, &mut entered, &mut rows)?;
     }
     Ok(rows)
 }
 
-/// Adds rows that bring what the scaled arrivals have of a link.
-fn push_link(
+/// Adds rows that bring what the scaled arrivals have of a row, where `entered` has what entered each link before it; it then has the row too.
+fn push_row(
     net: &Network,
-    arrivals: &Arrivals,
+    row: &ArrivalRow,
     factor: u32,
-    link: u32,
+    entered: &mut Vec<u32>,
     rows: &mut Vec<ArrivalRow>,
 ) -> Result<(), AllocError>
-    requires arrivals { AreArrivals net.now arrivals.now }
+    requires entry { IsEntry net.now row.now }
     requires factor { factor ≤ greatest_factor }
-    requires link { link < length net.now.link_names }
-    requires come { HaveCome net.now factor arrivals.now link 0 rows.old.items }
-    ensures { OnOk result (HaveCome net.now factor arrivals.now (link + 1) 0 rows.new.items) }
+    requires count { length entered.old.items ≡ length net.now.link_names }
+    requires few { slice_index entered.old.items row.now.link + row.now.amount ≤ most_of_all }
+    ensures entered { OnOk result (entered.new.items ≡ slice_set entered.old.items row.now.link
+        (slice_index entered.old.items row.now.link + row.now.amount)) }
+    ensures brings { OnOk result (Brings net.now row.now.link row.now.second
+        (next_share factor (slice_index entered.old.items row.now.link) row.now.amount) rows.old.items rows.new.items) }
 {
-    let mut before = 0;
-    for second in 0..SECONDS {
-        let after = before + u64::from(arrivals.entering(link, second));
-        let amount = share_of(after, factor) - share_of(before, factor);
-        push_amount(net, link, second, amount, rows)?;
-        before = after;
-    }
+    let link = row.link as usize;
+    let before = entered[link];
+    let after = before + row.amount;
+    let amount = share_of(u64::from(after), factor) - share_of(u64::from(before), factor);
+    push_amount(net, row.link, row.second, amount, rows)?;
+    entered[link] = after;
     Ok(())
 }
 
@@ -128,7 +131,7 @@ fn push_amount(
     rows: &mut Vec<ArrivalRow>,
 ) -> Result<(), AllocError>
     requires source { 0 < amount → IsSource net.now link }
-    requires second { second < most_seconds }
+    requires second { second < known_seconds net.now }
     ensures { OnOk result (Brings net.now link second amount rows.old.items rows.new.items) }
 {
     let mut left = amount;

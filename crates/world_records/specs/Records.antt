@@ -38,13 +38,20 @@ link_record_of net links link = link_record net link (slice_index_or links link 
 abbrev pub total_record : Totals → List (List ℕ)
 total_record totals = codes "total" ∷ [] ∷ [] ∷ decimal totals.entered ∷ decimal totals.left ∷ decimal totals.on ∷ decimal totals.delay ∷ []
 
+-- the records of what the world counted: the totals of each link, and all totals
+abbrev pub counted_records : Net → List LinkTotals → Totals → List (List (List ℕ))
+counted_records net links totals = map (link_record_of net links) (range_with_len 0 (length net.link_names)) ++ total_record totals ∷ []
+
 -- the records of what the signals showed and the world counted: the greens that are told up to a second, by node and time; the totals
 -- of each link; and all totals
 abbrev pub shown_records : Net → List (List Green) → List LinkTotals → Totals → ℕ → List (List (List ℕ))
 shown_records net lines links totals end =
-    flat_map (green_records net lines end) (range_with_len 0 (length net.node_names))
-    ++ (map (link_record_of net links) (range_with_len 0 (length net.link_names)) ++ total_record totals ∷ [])
+    flat_map (green_records net lines end) (range_with_len 0 (length net.node_names)) ++ counted_records net links totals
 
 -- the text of records, as `csv` writes them
 abbrev pub records_text : List (List (List ℕ)) → List ℕ
 records_text records = flat_map (row_text default_writer) records
+
+-- the text of the header and of what the world counted
+abbrev pub counted_text : Net → List LinkTotals → Totals → List ℕ
+counted_text net links totals = records_text (header ∷ counted_records net links totals)

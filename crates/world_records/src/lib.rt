@@ -9,4 +9,4 @@ mod shown;
 pub use digits::{Digits, digits_of};
 pub use entries::{is_header, seven_fields, write_header};
 pub use records::{finish, start, write_record};
-pub use shown::write_shown;
+pub use shown::{counted_text, write_shown};

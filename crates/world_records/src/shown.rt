@@ -1,20 +1,23 @@
 //! The records of what the signals showed and the world counted.
-ghost use Rattle.std.specs.Prelude.{◌≡◌, ◌<◌, ℕ, [], ◌∷◌, All, OnOk, length, map};
+ghost use Rattle.std.specs.Prelude.{◌≡◌, ◌<◌, ℕ, [], ◌∷◌, All, IfOk, OnOk, length, map};
 ghost use Rattle.std.specs.List.{flat_map, range_with_len};
 ghost use Rattle.control_flow.specs.Greens.{row_at};
 ghost use Rattle.net_simulator.specs.Sums as sums;
 ghost use Rattle.road_net.specs.Through.{is_through};
-ghost use Rattle.world_records.specs.Records.{green_record, green_records, link_record, link_record_of, shown_records, total_record};
+ghost use Rattle.world_records.specs.Records as records;
+ghost use Rattle.world_records.specs.Records.{counted_records, green_record, green_records, link_record, link_record_of};
+ghost use Rattle.world_records.specs.Records.{shown_records, total_record};
 ghost use Rattle.world_records.specs.Told.{IsToldGreen, told_by, told_line, told_rows};
 ghost use Rattle.world_records.specs.Written.{Adds};
 
 use crate::digits::digits_of;
-use crate::records::write_record;
+use crate::entries::write_header;
+use crate::records::{finish, start, write_record};
 use control_flow::greens::{Green, Timeline};
 use csv::Writer;
 use net_simulator::{LinkTotals, Totals, end_of_run};
 use road_net::Network;
-use std::alloc::AllocError;
+use std::alloc::{AllocError, Global};
 
 /// Writes what lines show and what was counted: the greens that are told of each line, by node and time, the totals of each
 /// link, and all totals. There are a line for each node and totals of each link. A report can tell these greens. `Err`: out
@@ -36,8 +39,40 @@ pub fn write_shown(
         → All IsToldGreen (told_line net.now lines.now (sums.end_of_run net.now) node)) }
 {
     write_greens(net, lines, end_of_run(net), out)?;
+    write_counted(net, links, totals, out)
+}
+
+/// Writes what was counted: the totals of each link, and all totals. There are totals of each link. `Err`: out of memory.
+fn write_counted(
+    net: &Network,
+    links: &[LinkTotals],
+    totals: Totals,
+    out: &mut Writer<Vec<u8>>,
+) -> Result<(), AllocError>
+    requires { length links.now ≡ length net.now.link_names }
+    ensures { OnOk result (Adds out.old out.new (counted_records net.now links.now totals)) }
+{
     write_links(net, links, out)?;
     write_totals(totals, out)
+}
+
+/// The text of what was counted in a run: the header, the totals of each link, and all totals. There are totals of each link.
+/// `Err`: out of memory.
+///
+/// docs/FORMATS.md, "Totals of a run".
+pub fn counted_text(
+    alloc: Global,
+    net: &Network,
+    links: &[LinkTotals],
+    totals: Totals,
+) -> Result<Vec<u8>, AllocError>
+    requires { length links.now ≡ length net.now.link_names }
+    ensures { IfOk result (λ text. text.items ≡ records.counted_text net.now links.now totals) }
+{
+    let mut out = start(Vec::new(alloc));
+    write_header(&mut out)?;
+    write_counted(net, links, totals, &mut out)?;
+    finish(out)
 }
 
 /// Writes the records of the greens that are told of each node's line, up to second `end`, by node and time; a line for each

@@ -1,6 +1,6 @@
-use Rattle.scaled_arrivals.specs.Rows.{HaveCome}
+use Rattle.scaled_arrivals.proofs.ScalingLaws.{HaveEntered}
 use Rattle.scaled_arrivals.proofs.scaled_rows.Given as goal
 
--- the first links were brought
-abbrev pub invariant-loop-link : goal.invariant-loop-link
-invariant-loop-link l = HaveCome l.net l.factor l.arrivals l.link 0 l.rows.items
+-- the rows so far have come
+abbrev pub invariant-loop-row : goal.invariant-loop-row
+invariant-loop-row l = HaveEntered l.net l.factor l.coming l.row-index l.entered.items l.rows.items

@@ -1,7 +1,13 @@
-use Rattle.std.proofs.Common.{ap, get_or, ◌+◌, ◌-◌, arith}
+use Rattle.std.proofs.Common.{ap, get_or, subst, sym, ◌+◌, ◌-◌, arith}
 use Rattle.net_parts.specs.declared.roads.Link.{Link}
-use Rattle.outflow.proofs.ServedLaws.{clear-after, filling-all, filling-more, found-fit, listed, no_served, phase-below, phases-few, platoon-found, platoon-there, serving-late}
+use Rattle.outflow.proofs.ServedLaws.{IsFilling, clear-after, filling-all, filling-more, filling-none, found-fit, listed, no_served, phase-below, phases-few, platoon-found, platoon-there, serving-late, zeros}
 use Rattle.outflow.proofs.exit_flow.fill_exit_flow.Goals as goal
+
+pub loop-i-init : goal.loop-i-init
+loop-i-init c =
+    subst (λ amounts. IsFilling c.args.net.now c.args.node c.args.exit c.args.now c.args.window.now.lists c.args.servings.now.phases.now c.args.servings.now.served.now (zeros 4) amounts 0)
+    (sym c.requires.amounts)
+    (filling-none c.args.net.now c.args.node c.args.exit c.args.now c.args.window.now.lists c.args.servings.now.phases.now c.args.servings.now.served.now c.requires.served)
 
 pub bounds-taken-k : goal.bounds-taken-k
 bounds-taken-k c = omega (arith, phases-few c.args.net.now c.args.node c.args.now c.args.window.now.lists c.link-travel.ensures.network c.requires.node c.requires.platoons, phase-below c.args.net.now c.args.node c.args.exit c.args.now c.args.window.now.lists c.args.servings.now.phases.now c.args.servings.now.served.now c.loop-i.taken c.loop-i.amounts c.loop-i.i c.requires.platoons c.loop-i.invariant (omega arith))

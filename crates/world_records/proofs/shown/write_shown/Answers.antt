@@ -6,12 +6,12 @@ use Rattle.world_records.proofs.shown.write_shown.Goals as goal
 
 pub returns-clause-records : goal.returns-clause-records
 returns-clause-records c =
-    on_ok_weaker c.write_totals.result
-    (λ last. shown-parts c.args.net.now c.args.lines.now c.args.links.now c.args.totals c.end_of_run.result c.args.out.now c.write_greens.new.out c.write_links.new.out c.write_totals.new.out c.end_of_run.ensures.value c.in_ok-write_greens.ensures.records c.in_ok-write_links.ensures last)
-    c.write_totals.ensures
+    on_ok_weaker c.write_counted.result
+    (λ counted. shown-parts c.args.net.now c.args.lines.now c.args.links.now c.args.totals c.end_of_run.result c.args.out.now c.write_greens.new.out c.write_counted.new.out c.end_of_run.ensures.value c.in_ok-write_greens.ensures.records counted)
+    c.write_counted.ensures
 
 pub returns-clause-told : goal.returns-clause-told
 returns-clause-told c =
-    on_ok_weaker c.write_totals.result
-    (λ last. subst (λ (end : ℕ). (node : ℕ) → node < length c.args.net.now.node_names → All IsToldGreen (told_line c.args.net.now c.args.lines.now end node)) c.end_of_run.ensures.value c.in_ok-write_greens.ensures.told)
-    c.write_totals.ensures
+    on_ok_weaker c.write_counted.result
+    (λ counted. subst (λ (end : ℕ). (node : ℕ) → node < length c.args.net.now.node_names → All IsToldGreen (told_line c.args.net.now c.args.lines.now end node)) c.end_of_run.ensures.value c.in_ok-write_greens.ensures.told)
+    c.write_counted.ensures

@@ -1,8 +1,6 @@
-use Rattle.arrivals.proofs.SumLaws.{few-stored}
+use Rattle.std.proofs.Common.{arith}
+use Rattle.arrivals.proofs.RowLaws.{rows-within}
 use Rattle.arrivals.proofs.amounts.Arrivals.entering.Goals as goal
 
-pub returns-then-link-self-clause-few : goal.returns-then-link-self-clause-few
-returns-then-link-self-clause-few c = few-stored _ _ _ c.self.view_is c.self.invariant
-
 pub returns-clause-few : goal.returns-clause-few
-returns-clause-few c = few-stored _ _ _ c.self.view_is c.self.invariant
+returns-clause-few c n m = omega (arith, rows-within c.args.self.now.rows n m, c.in_second-rows.ensures.kept.few)

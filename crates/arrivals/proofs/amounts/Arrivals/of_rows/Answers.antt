@@ -1,37 +1,27 @@
-use Rattle.std.proofs.Common.{◌≡◌, get_or, arith, length-take}
-use Rattle.std.proofs.lemmas.List.{get_or_default}
-use Rattle.std.proofs.lemmas.Result.{err_from_is_err_and, IfErr-weaker}
+use Rattle.std.proofs.Common.{◌≤◌, All, sum_by, sym, ap, ◌∙◌, subst, rules, arith}
+use Rattle.std.specs.List.Sorted.{IsNonDecreasingBy}
+use Rattle.std.proofs.lemmas.List.Sorted.{All-permutation, IsNonDecreasingBy-from_sort_by_key, sum_by-IsPermutation}
 use Rattle.arrivals.specs.declared.rows.ArrivalRow.{ArrivalRow}
-use Rattle.arrivals.specs.Faults.{IsRowFault}
-use Rattle.arrivals.proofs.FaultLaws.{row-fault, row-refuses}
-use Rattle.arrivals.proofs.TallyLaws.{tally-count, tally-arrivals, tally-next}
+use Rattle.arrivals.specs.Rows.{amount_of, arriving_by}
+use Rattle.arrivals.specs.Stored.{order_of}
+use Rattle.arrivals.proofs.RowLaws.{arriving-permutation}
 use Rattle.arrivals.proofs.amounts.Arrivals.of_rows.Goals as goal
 
-pub overflow_cast-index : goal.overflow_cast-index
-overflow_cast-index c = omega (arith, tally-count c.args.net.now _ _ c.loop-index.invariant, length-take c.loop-index.index c.args.rows.now)
+pub join-requires-clause-order : goal.join-requires-clause-order
+join-requires-clause-order c =
+    subst (IsNonDecreasingBy order_of) (sym c.as_slice.ensures.value) (IsNonDecreasingBy-from_sort_by_key order_of _ c.sort_unstable_by_key.ensures.sorted (λ a r q k. search rules))
 
-pub overflow_add-index : goal.overflow_add-index
-overflow_add-index c = omega (arith, tally-count c.args.net.now _ _ c.loop-index.invariant, length-take c.loop-index.index c.args.rows.now)
+pub join-requires-clause-least : goal.join-requires-clause-least
+join-requires-clause-least c =
+    let least = All-permutation (λ (row : ArrivalRow). 1 ≤ row.amount) c.args.rows.items c.sort_unstable_by_key.new.self.items c.sort_unstable_by_key.ensures.permutation c.requires.least in
+    subst (All (λ (row : ArrivalRow). 1 ≤ row.amount)) (sym c.as_slice.ensures.value) least
 
-pub returns-in_err-add-clause-first : goal.returns-in_err-add-clause-first
-returns-in_err-add-clause-first c =
-    let p = err_from_is_err_and c.from_residual.result c.from_residual.ensures.1 in
-    let tally = c.loop-index.invariant in
-    let d : ArrivalRow = record { second = 0; link = 0; amount = 0 } in
-    let r : ArrivalRow = get_or c.args.rows.now c.loop-index.index d in
-    let here : r ≡ get_or c.args.rows.now c.loop-index.index r = get_or_default c.args.rows.now c.loop-index.index d r c.loop-index-test.true in
-    rw (p.1, p.2) (row-fault c.args.net.now c.args.rows.now c.loop-index.index r c.loop-index-test.true here tally.of_rows.lawful _ c.loop-index.arrivals c.add.new.self tally.whole c.in_err-add.ensures)
+pub join-requires-clause-few : goal.join-requires-clause-few
+join-requires-clause-few c =
+    omega (arith, sum_by-IsPermutation amount_of c.args.rows.items c.sort_unstable_by_key.new.self.items c.sort_unstable_by_key.ensures.permutation, ap (sum_by amount_of) c.as_slice.ensures.value, c.requires.few)
 
-pub returns-in_err-add-clause-refused : goal.returns-in_err-add-clause-refused
-returns-in_err-add-clause-refused c =
-    IfErr-weaker c.from_residual.result (IsRowFault c.args.net.now c.args.rows.now) _ (row-refuses c.args.net.now c.args.rows.now) (returns-in_err-add-clause-first c)
-
-pub loop-index-preserved : goal.loop-index-preserved
-loop-index-preserved c =
-    let d : ArrivalRow = record { second = 0; link = 0; amount = 0 } in
-    let r : ArrivalRow = get_or c.args.rows.now c.loop-index.index d in
-    let here : r ≡ get_or c.args.rows.now c.loop-index.index r = get_or_default c.args.rows.now c.loop-index.index d r c.loop-index-test.true in
-    tally-next c.args.net.now c.args.rows.now c.loop-index.index c.loop-index.arrivals c.add.new.self r c.loop-index-test.true here c.loop-index.invariant c.in_ok-add.ensures
-
-pub returns-clause-arrivals : goal.returns-clause-arrivals
-returns-clause-arrivals c = tally-arrivals c.args.net.now _ c.loop-index.arrivals c.loop-index.invariant
+pub returns-clause-sums : goal.returns-clause-sums
+returns-clause-sums c l x =
+    c.in_ok-rows.ensures.sums l x
+    ∙ ap (λ rows. arriving_by rows x l) c.as_slice.ensures.value
+    ∙ arriving-permutation c.args.rows.items c.sort_unstable_by_key.new.self.items c.sort_unstable_by_key.ensures.permutation l x
