@@ -1,9 +1,10 @@
 -- How long the rounds of the controller are.
 use Rattle.std.proofs.Common.{◌≡◌, ℕ, ◌+◌, ◌*◌, ◌/◌, ◌%◌, ◌<◌, ◌≤◌, Option, Some, None, IfSome, unwrap_or, ap, ◌∙◌, inl, inr, arith}
 use Rattle.std.proofs.lemmas.Bool.{cases_lt}
-use Rattle.std.proofs.lemmas.Nat.{div-add-mod', mul-le}
+use Rattle.std.proofs.lemmas.Nat.{div-add-mod'}
 use Rattle.std.proofs.Math.Nat.{mod-eq_of_lt, mod_self, mul-le-mul_right, mul_assoc}
 use Rattle.net_parts.specs.Bounds.{IsActStep}
+use Rattle.net_parts.specs.Limits.{most_seconds}
 use Rattle.net_parts.specs.Numbers.{Net}
 use Rattle.road_net.specs.Network.{IsNetwork}
 use Rattle.actuated.specs.ActSteps.{AreActRounds, act_rounds, act_step}
@@ -35,19 +36,19 @@ act-rounds net network =
     let are = rounds-of net.run.rounds net.run.step net.run.act_step run.step.0 run.act_step in
     record { some = some-step net.run.step net.run.act_step run.step.0 run.act_step; within = are.0; whole = are.1 }
 
--- all of them are over by second 18,000
-pub end-by : (net : Net) → IsNetwork net → act_rounds net * act_step net ≤ 18000
-end-by net network = (let all = mul-le net.run.rounds net.run.step 600 30 network.outline.run.rounds.1 network.outline.run.step.1 in omega (arith, all, (act-rounds net network).whole))
+-- all of them are over within a day
+pub end-by : (net : Net) → IsNetwork net → act_rounds net * act_step net ≤ most_seconds
+end-by net network = omega (arith, network.outline.run.seconds, (act-rounds net network).whole)
 
 -- in a round there is time for its seconds
-pub time-for : (net : Net) → IsNetwork net → (r : ℕ) → r < act_rounds net → r * act_step net + act_step net ≤ 18000
+pub time-for : (net : Net) → IsNetwork net → (r : ℕ) → r < act_rounds net → r * act_step net + act_step net ≤ most_seconds
 time-for net network r less =
     let all : (r + 1) * act_step net ≤ act_rounds net * act_step net = mul-le-mul_right {m = r + 1} {n = act_rounds net} (act_step net) (omega arith) in
     let one : (r + 1) * act_step net ≡ r * act_step net + act_step net = omega arith in
     omega (arith, all, one, end-by net network)
 
 -- so one begins by then
-pub begins-by : (net : Net) → IsNetwork net → (r : ℕ) → r < act_rounds net → r * act_step net ≤ 18000
+pub begins-by : (net : Net) → IsNetwork net → (r : ℕ) → r < act_rounds net → r * act_step net ≤ most_seconds
 begins-by net network r less = omega (arith, time-for net network r less)
 
 pub one-round : (net : Net) (r : ℕ) → (r + 1) * act_step net ≡ r * act_step net + act_step net

@@ -18,6 +18,7 @@ use Rattle.control_flow.proofs.TurningLaws.{passes-called, turned-line}
 use Rattle.control_flow.specs.Timelines.{calls_for, first_head, stops_at}
 use Rattle.control_flow.specs.declared.greens.Green.{Green}
 use Rattle.control_flow.specs.declared.greens.Sign.{Sign}
+use Rattle.net_parts.specs.Limits.{most_seconds}
 use Rattle.net_parts.specs.Numbers.{Net}
 use Rattle.net_parts.specs.Outline.{link_at, phase_links_at, plan_at}
 use Rattle.net_simulator.specs.Flow.{Cumulative, cumulative_under, queue}
@@ -51,7 +52,7 @@ module _ (net : Net) (network : IsNetwork net) (under : (ℕ → ℕ → Sign) �
   abbrev line : ℕ → List Green
   line r = line_before (first_line net) made r node
 
-  abbrev goes-on : (past : ℕ → ℕ → Cumulative) (n : ℕ) (old new : List Green) → n ≤ 18000 → IsLine (plan_at net node) old → IsNextLine net past n node old new → IsRound (plan_at net node) (longest_intergreen (plan_at net node) 0) n old new
+  abbrev goes-on : (past : ℕ → ℕ → Cumulative) (n : ℕ) (old new : List Green) → n ≤ most_seconds → IsLine (plan_at net node) old → IsNextLine net past n node old new → IsRound (plan_at net node) (longest_intergreen (plan_at net node) 0) n old new
   goes-on past n old new soon is next =
       let look = network.outline.run.look.1 in
       let head = head-of (plan_at net node) old n next.head is (omega (arith, soon)) next.at in
@@ -80,7 +81,7 @@ module _ (net : Net) (network : IsNetwork net) (under : (ℕ → ℕ → Sign) �
       let one = rounds-are.each r (omega (arith, few)) in
       splice-begins (plan_at net node) plan (longest_intergreen (plan_at net node) 0) (r * act_step net) (line r) (line (suc r)) (line-is r (omega (arith, few))).lawful one ∙ begins-first r (omega (arith, few))
 
-  ends-late : (past : ℕ → ℕ → Cumulative) (n : ℕ) (old new : List Green) → n ≤ 18000 → IsLine (plan_at net node) old → IsNextLine net past n node old new → n + net.run.look < end_of new
+  ends-late : (past : ℕ → ℕ → Cumulative) (n : ℕ) (old new : List Green) → n ≤ most_seconds → IsLine (plan_at net node) old → IsNextLine net past n node old new → n + net.run.look < end_of new
   ends-late past n old new soon is next =
       let look = network.outline.run.look.1 in
       let head = head-of (plan_at net node) old n next.head is (omega (arith, soon)) next.at in
@@ -122,7 +123,7 @@ module _ (net : Net) (network : IsNetwork net) (past : ℕ → ℕ → Cumulativ
 -- so in each round in which it stands the ring stops at its phase
 module _ (net : Net) (network : IsNetwork net) (arriving : ℕ → ℕ → ℕ) (made : ℕ → ℕ → List Green) (acts : AllAct net (cumulative_under net arriving) made (act_rounds net)) (node : ℕ) (below : node < length net.node_names)
     (l : ℕ) (inside : l < length net.link_names) (ends : (link_at net l).to ≡ Some node) where
-  next-free : (past : ℕ → ℕ → Cumulative) (n : ℕ) (old new : List Green) (soon : n ≤ 18000) (is : IsLine (plan_at net node) old) (next : IsNextLine net past n node old new)
+  next-free : (past : ℕ → ℕ → Cumulative) (n : ℕ) (old new : List Green) (soon : n ≤ most_seconds) (is : IsLine (plan_at net node) old) (next : IsNextLine net past n node old new)
       → calls_for (calls_at net past n node) (link_at net l).phase ≡ true → IsLawful (freed (plan_at net node) (link_at net l).phase) (act_line (plan_at net node) next.head (calls_at net past n node) (n + net.run.look))
   next-free past n old new soon is next called =
       let p = plan-is net network node below in

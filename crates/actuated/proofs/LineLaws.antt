@@ -10,6 +10,7 @@ use Rattle.control_flow.specs.Greens.{BeginBy, IsContinued, end_of, head_at, spl
 use Rattle.control_flow.specs.Timelines.{first_head, rotation_of, stops_at}
 use Rattle.control_flow.specs.declared.greens.Green.{Green}
 use Rattle.control_flow.proofs.TurningLaws.{passes-called, turned-by, turned-line}
+use Rattle.net_parts.specs.Limits.{most_seconds}
 use Rattle.net_parts.specs.Numbers.{Net}
 use Rattle.net_parts.specs.Outline.{plan_at}
 use Rattle.net_simulator.specs.Flow.{Cumulative}
@@ -51,7 +52,7 @@ module _ (net : Net) (network : IsNetwork net) (node : ℕ) (below : node < leng
       let count = plan.count.0 in
       (rotation-next (plan_at net node) first_head 0 plan (record { is = record { phase = omega arith; begun = omega arith; within = omega arith }; since = omega arith; reach = omega arith }) (omega arith)).line
 
-  pub next-keeps : (past : ℕ → ℕ → Cumulative) (n : ℕ) (old new : List Green) → n ≤ 18000 → IsLine (plan_at net node) old → IsNextLine net past n node old new → KeepsLine (plan_at net node) old n new
+  pub next-keeps : (past : ℕ → ℕ → Cumulative) (n : ℕ) (old new : List Green) → n ≤ most_seconds → IsLine (plan_at net node) old → IsNextLine net past n node old new → KeepsLine (plan_at net node) old n new
   next-keeps past n old new early line next =
       let look = network.outline.run.look.1 in
       let head = head-of (plan_at net node) old n next.head line (omega arith) next.at in

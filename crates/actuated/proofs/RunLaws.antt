@@ -6,6 +6,7 @@ use Rattle.std.proofs.lemmas.Nat.{div_below}
 use Rattle.audit.specs.Audits.{IsClean}
 use Rattle.control_flow.specs.Signs.{sign_at}
 use Rattle.control_flow.specs.declared.greens.Green.{Green}
+use Rattle.net_parts.specs.Limits.{most_seconds}
 use Rattle.net_parts.specs.Numbers.{Net}
 use Rattle.net_simulator.specs.Counts.{counts_at, no_totals}
 use Rattle.net_simulator.specs.Flow.{Cumulative, passed_in, cumulative_under}
@@ -56,7 +57,7 @@ module _ (net : Net) (network : IsNetwork net) (arriving : ℕ → ℕ → ℕ) 
       stands-under net arriving (signs_by (line_in lines)) (signs_by (line_in renewed)) w
       (λ x n less. sym (same-before net network (cumulative_under net arriving) (past-same net arriving) r lines renewed near a.acted then-renewed x n (omega (arith, a.second, less)))) a.stands
 
-  pub room : r < act_rounds net → w.second + act_step net ≤ 18000
+  pub room : r < act_rounds net → w.second + act_step net ≤ most_seconds
   room less = omega (arith, time-for net network r less, a.second)
 
   -- after a round more

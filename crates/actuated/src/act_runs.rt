@@ -1,6 +1,6 @@
 //! The run of a network under actuated control.
 
-ghost use Rattle.std.specs.Prelude.{◌≡◌, ℕ, IfOk, OnOk};
+ghost use Rattle.std.specs.Prelude.{◌≡◌, ℕ, IfOk};
 ghost use Rattle.arrivals.specs.Amounts.{AreArrivals, arriving_of};
 ghost use Rattle.audit.specs.Audits.{AreLawful, IsClean};
 ghost use Rattle.net_simulator.specs.Counts.{IsBalanced};
@@ -55,9 +55,9 @@ pub fn run_actuated(
     ensures whole { IfOk result (λ run. IsBalanced run.totals) }
 {
     law_of_network(net);
-    let mut lines = first_lines(alloc, net)?;
+    let lines = first_lines(alloc, net)?;
     let mut world = World::new(alloc, net)?;
-    play_rounds(alloc, net, arrivals, &mut lines, &mut world)?;
+    let lines = play_rounds(alloc, net, arrivals, lines, &mut world)?;
     let links = list_totals(alloc, net, &world)?;
     Ok(ActRecord {
         timelines: Items::from_vec(lines),
@@ -76,18 +76,18 @@ pub fn law_of_one_run(net: &Network)
     law_of_network(net);
 }
 
-/// Plays all rounds from the first one.
+/// Plays all rounds from the first one, and gives the last lines.
 fn play_rounds(
     alloc: Global,
     net: &Network,
     arrivals: &Arrivals,
-    lines: &mut Vec<Timeline>,
+    mut lines: Vec<Timeline>,
     world: &mut World,
-) -> Result<(), AllocError>
+) -> Result<Vec<Timeline>, AllocError>
     requires arrivals { AreArrivals net.now arrivals.now }
-    requires first { HavePlayed net.now (arriving_of arrivals.now) 0 lines.old.items world.old }
-    ensures { OnOk result (HavePlayed net.now (arriving_of arrivals.now) (steps.act_rounds net.now)
-        lines.new.items world.new) }
+    requires first { HavePlayed net.now (arriving_of arrivals.now) 0 lines.items world.old }
+    ensures { IfOk result (λ played. HavePlayed net.now (arriving_of arrivals.now) (steps.act_rounds net.now)
+        played.items world.new) }
 {
     let mut near = zeros(alloc, net.links() as usize)?;
     let mut calls = Vec::with_capacity(alloc, 4)?;
@@ -95,7 +95,7 @@ fn play_rounds(
     let rounds = act_rounds(net);
     for _round in 0..rounds {
         sense_near(near.as_mut_slice(), net, world);
-        renew_lines(alloc, net, world.now(), near.as_slice(), lines, &mut calls)?;
+        lines = renew_lines(alloc, net, world.now(), near.as_slice(), lines, &mut calls)?;
         world.advance(
             net,
             &Lines {
@@ -105,5 +105,5 @@ fn play_rounds(
             step,
         );
     }
-    Ok(())
+    Ok(lines)
 }

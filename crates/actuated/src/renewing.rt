@@ -68,11 +68,11 @@ fn renew_line(
     Ok(())
 }
 
-/// The timeline of each node goes on when a round begins in second `now`, at most 18,000, by what calls for the node's
+/// The timeline of each node goes on when a round begins in second `now`, at most 86,400, by what calls for the node's
 /// phases: what is near on the links that they serve. `near` says what is near on each link, whatever the world is; in
 /// `calls` is written what calls for the phases of a node.
 ///
-/// `Err`: out of memory.
+/// `Err`: out of memory. The timelines, some of which may have gone on then, are dropped.
 ///
 /// docs/RULES.md, "Actuated control".
 pub fn renew_lines(
@@ -80,18 +80,19 @@ pub fn renew_lines(
     net: &Network,
     now: u32,
     near: &[u32],
-    lines: &mut Vec<Timeline>,
+    mut lines: Vec<Timeline>,
     calls: &mut Vec<u32>,
-) -> Result<(), AllocError>
+) -> Result<Vec<Timeline>, AllocError>
     requires now { now ≤ most_seconds }
     requires near { AreAmounts net.now near.now }
-    requires count { length lines.old.items ≡ length net.now.node_names }
+    requires count { length lines.items ≡ length net.now.node_names }
     requires ready { (node : ℕ) → node < length net.now.node_names
-        → IsReady (plan_at net.now node) now (line_in lines.old.items node) }
-    ensures { OnOk result (AreRenewed net.now near.now now (length net.now.node_names)
-        lines.old.items lines.new.items) }
+        → IsReady (plan_at net.now node) now (line_in lines.items node) }
+    ensures { IfOk result (λ renewed. AreRenewed net.now near.now now (length net.now.node_names)
+        lines.items renewed.items) }
 {
-    for node in 0..net.nodes() {
+    let nodes = net.nodes();
+    for node in 0..nodes {
         list_calls(net, node, near, calls)?;
         renew_line(
             alloc,
@@ -102,5 +103,5 @@ pub fn renew_lines(
             &mut lines[node as usize],
         )?;
     }
-    Ok(())
+    Ok(lines)
 }

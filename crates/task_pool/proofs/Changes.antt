@@ -1,10 +1,10 @@
 -- One end of a list changed, or one more.
-use Rattle.std.proofs.Common.{◌≡◌, ◌≢◌, ℕ, zero, suc, ◌+◌, ◌<◌, List, [], ◌∷◌, ◌++◌, length, get_or, set, take, drop, inl, inr, sym, ap, subst, ◌∙◌, arith, length-append, length-set}
+use Rattle.std.proofs.Common.{◌≡◌, ◌≢◌, ℕ, zero, suc, ◌+◌, ◌<◌, List, [], ◌∷◌, ◌++◌, length, get_or, set, take, drop, inl, inr, refl, sym, ap, subst, ◌∙◌, arith, length-append, length-set}
 use Rattle.std.proofs.lemmas.Bool.{cases_lt}
 use Rattle.std.proofs.lemmas.Grind.{get_or-set_at}
 use Rattle.std.proofs.lemmas.List.{get_or_append_left, get_or_default, get_or-set_other}
 use Rattle.std.proofs.Math.Seq.{get_or-append_seam, take-append_seam}
-use Rattle.std.specs.Prelude.{None}
+use Rattle.std.specs.Prelude.{true}
 use Rattle.std.proofs.lemmas.List.Elements.{All-append}
 use Rattle.std.proofs.lemmas.Option.{none-some}
 use mathlib.Core.Logic.{dite}
@@ -14,7 +14,8 @@ use Rattle.task_pool.specs.declared.slot.Slot.{Slot}
 use Rattle.task_pool.specs.declared.slot.SlotOwner.{SlotOwner}
 use Rattle.task_pool.specs.declared.slot.SlotWorker.{SlotWorker}
 use Rattle.task_pool.specs.Batch.{AreDone}
-use Rattle.task_pool.specs.Known.{AreAllLaid, AreEmpty, AreFreeTo, AreLaid, AreTakenBack, AreWorkersOf, FitSlots, IsFreeWorkerOf, laid_of}
+use Rattle.task_pool.specs.Known.{AreAllLaid, AreClosed, AreEmpty, AreFreeTo, AreLaid, AreTakenBack, AreWorkersOf, FitSlots, IsFreeWorkerOf, IsOpen, finds_closed, found_closed, has_closed}
+use Rattle.task_pool.specs.Laying.{AreClosing}
 use Rattle.task_pool.specs.Places.{IsBack}
 use Rattle.task_pool.specs.Threads.{AreThreadsOf}
 
@@ -79,20 +80,40 @@ module _ {T : Type 0} where
         j (omega arith);
   }
 
-  -- a slot stays empty
-  pub set-empty : (owners : List (SlotOwner T)) (k : ℕ) (x : SlotOwner T) → laid_of x ≡ None → AreEmpty owners → AreEmpty (set owners k x)
+  -- a slot stays open and empty
+  pub set-empty : (owners : List (SlotOwner T)) (k : ℕ) (x : SlotOwner T) → IsOpen x → AreEmpty owners → AreEmpty (set owners k x)
   set-empty owners k x free old j e inside = let long : length (set owners k x) ≡ length owners = length-set owners k x in elim (cases_lt k (length owners)) [
-    | inl below ↦ at-set (λ _ a. laid_of a ≡ None) owners k x e below free (λ n less _. old n e less) j (omega arith)
+    | inl below ↦ at-set (λ _ a. IsOpen a) owners k x e below free (λ n less _. old n e less) j (omega arith)
     | inr past ↦
         let less : j < length owners = omega arith in
         let apart : j ≢ k = λ same. omega arith in
-        ap laid_of (get_or-set_other owners k j x e apart) ∙ old j e less
+        subst IsOpen (sym (get_or-set_other owners k j x e apart)) (old j e less)
   ]
 
   -- one more is empty
-  pub more-empty : (owners : List (SlotOwner T)) (x : SlotOwner T) → laid_of x ≡ None → AreEmpty owners → AreEmpty (owners ++ x ∷ [])
+  pub more-empty : (owners : List (SlotOwner T)) (x : SlotOwner T) → IsOpen x → AreEmpty owners → AreEmpty (owners ++ x ∷ [])
   more-empty owners x free old j e inside = let long : length (owners ++ x ∷ []) ≡ length owners + 1 = length-append owners (x ∷ []) in
-      at-more (λ _ a. laid_of a ≡ None) owners x e free (λ n less. old n e less) j (omega arith)
+      at-more (λ _ a. IsOpen a) owners x e free (λ n less. old n e less) j (omega arith)
+
+  -- one more slot is closed
+  pub set-closed : (place : ℕ) (owners : List (SlotOwner T)) (x : SlotOwner T) → place < length owners → has_closed x ≡ true → AreClosing place owners → AreClosing (place + 1) (set owners place x)
+  set-closed place owners x below shut old = record {
+    closed = λ k e before. dite (ℕ_discrete k place)
+        (λ same. subst (λ n. has_closed (get_or (set owners place x) n e) ≡ true) (sym same) (ap has_closed (get_or-set_at owners place place x e refl below) ∙ shut))
+        (λ apart. ap has_closed (get_or-set_other owners place k x e apart) ∙ old.closed k e (omega arith));
+    others = λ k e past inside.
+        let long : length (set owners place x) ≡ length owners = length-set owners place x in
+        subst IsOpen (sym (get_or-set_other owners place k x e (λ same. omega arith))) (old.others k e (omega arith) (omega arith));
+  }
+
+  -- all are
+  pub all-closed : (place : ℕ) (owners : List (SlotOwner T)) → place ≡ length owners → AreClosing place owners → AreClosed owners
+  all-closed place owners at old k e inside = old.closed k e (omega arith)
+
+  -- the first end looked
+  pub first-found : (workers : List (SlotWorker T)) (x : SlotWorker T) → 0 < length workers → finds_closed (set workers 0 x) ≡ found_closed x
+  first-found [] x below = absurd (omega arith)
+  first-found (w ∷ ws) x below = refl
 
   -- one more worker's end
   pub more-free : (place : ℕ) (slots : List (Slot T)) (workers : List (SlotWorker T)) (slot : Slot T) (x : SlotWorker T) → place < length slots → slot ≡ get_or slots place slot → IsFreeWorkerOf slot x → AreFreeTo place slots workers → AreFreeTo (place + 1) slots (workers ++ x ∷ [])

@@ -1,5 +1,5 @@
 -- Each step keeps the rule.
-use Rattle.std.proofs.Common.{◌≡◌, ◌≢◌, ℕ, zero, suc, ◌<◌, ◌⊎◌, inl, inr, eqb, Bool, true, false, List, [], ◌∷◌, ◌++◌, length, get_or, set, sym, refl, ap, ◌∙◌, subst, ⊎_elim, arith, eq-eqb, ne_eqb, length-set, get_or-set_same}
+use Rattle.std.proofs.Common.{◌≡◌, ◌≢◌, ℕ, zero, suc, ◌<◌, ◌⊎◌, inl, inr, eqb, Bool, true, false, List, [], ◌∷◌, ◌++◌, length, get_or, set, sym, refl, ap, ◌∙◌, subst, ⊎_elim, arith, eq-eqb, eqb-true, ne_eqb, length-set, get_or-set_same}
 use Rattle.std.specs.Prelude.{Option, Some, None, unwrap_or}
 use Rattle.std.proofs.lemmas.Option.{none-some}
 use Rattle.std.proofs.lemmas.Bool.{false≢true}
@@ -12,9 +12,9 @@ use prog.Atomic.{either}
 use Rattle.atomic_table.specs.Table.{State, Act, Valid, carried_after, step, put_back, rest, keeps, takes, gives, stepped, opening, Allows, Splits}
 use Rattle.atomic_table.proofs.Lists.{at_set, at_snoc, at_longer, set_again, set_here, set_else}
 use Rattle.task_pool.specs.declared.views.View.{View}
-use Rattle.task_pool.specs.Views.{first_view, worker_view, laying, taking}
+use Rattle.task_pool.specs.Views.{first_view, knowing, worker_view, laying, taking}
 use Rattle.task_pool.specs.Rule.{IsSomewhere, Holds}
-use Rattle.task_pool.specs.Plays.{Holding, in_front, begins, lays, puts_back, closes, TakesBack, takes_back, TakesTask, takes_task}
+use Rattle.task_pool.specs.Plays.{Holding, in_front, begins, lays, looks, puts_back, closes, TakesBack, takes_back, TakesTask, takes_task}
 
 module _ {T : Type 0} (ready : T → Type 0) (done : T → T → Type 0) where
   some-one : (x y : T) → Some x ≡ Some y → x ≡ y
@@ -24,6 +24,10 @@ module _ {T : Type 0} (ready : T → Type 0) (done : T → T → Type 0) where
   by-option : {A : Type 0} (o : Option T) → (o ≡ None → A) → ((x : T) → o ≡ Some x → A) → A
   by-option None nothing something = nothing refl
   by-option (Some x) nothing something = something x refl
+
+  by-bool : {A : Type 0} (b : Bool) → (b ≡ true → A) → (b ≡ false → A) → A
+  by-bool true closed unclosed = closed refl
+  by-bool false closed unclosed = unclosed refl
 
   -- what stands at a place stands inside the list
   within : {A : Type 0} (xs : List A) (k : ℕ) (x : A) → get_elem? xs k ≡ some x → k < length xs
@@ -42,11 +46,13 @@ module _ {T : Type 0} (ready : T → Type 0) (done : T → T → Type 0) where
 
     -- a step of the owner's end, while no worker has a task
     owner-step : (n : ℕ) (homes : List (mathlib.Core.Option.Option (Option T))) (w : View T) → id ≡ 0 → get_or s.words 0 0 ≢ 2 → length homes ≡ 1 → w.works ≡ v.works → w.taken ≡ v.taken
-        → (w.laid ≡ None → (n ≡ 0) ⊎ (n ≡ 4))
+        → (v.closed ≡ true → w.closed ≡ true)
+        → (w.laid ≡ None → w.closed ≡ false → n ≡ 0)
+        → (w.closed ≡ true → (w.laid ≡ None) × (n ≡ 4))
         → (w.fresh ≡ true → (w.laid ≡ None) × (get_elem? homes 0 ≡ some (some None)))
         → ((x : T) → w.laid ≡ Some x → IsSomewhere ready done n homes x)
         → Holds ready done record { words = set s.words 0 n; homes = homes; views = set s.views id w }
-    owner-step n homes w own free long works taken idle fresh laid =
+    owner-step n homes w own free long works taken stays idle shut fresh laid =
         let no-one : (seat : ℕ) (u : View T) (x : T) → get_elem? (set s.views id w) seat ≡ some u → u.taken ≡ Some x → ⊥ = λ seat u x there has. ⊎_elim
         (λ t. free (h.taken id v x here (sym taken ∙ ap (λ (z : View T). z.taken) t.1 ∙ has)).0)
         (λ t. free (h.taken seat u x t.1 has).0)
@@ -57,10 +63,15 @@ module _ {T : Type 0} (ready : T → Type 0) (done : T → T → Type 0) where
           owner = w;
           first = subst (λ k. get_elem? (set s.views k w) 0 ≡ some w) (sym own) (set_here s.views 0 w (within s.views 0 h.owner h.first));
           apart = works ∙ ap (λ (z : View T). z.works) (sym (owner-is own)) ∙ h.apart;
-          idle = λ unlaid. ⊎_elim (λ at. inl (after ∙ at)) (λ at. inr (after ∙ at)) (idle unlaid);
+          idle = λ unlaid unshut. after ∙ idle unlaid unshut;
+          shut = λ is. (let s = shut is in (s.0, after ∙ s.1));
           fresh = fresh;
           laid = λ x is. subst (λ k. IsSomewhere ready done k homes x) (sym after) (laid x is);
           taken = λ seat u x there has. absurd (no-one seat u x there has);
+          known = λ seat u there has. ⊎_elim
+              (λ t. ap (λ (z : View T). z.closed) t.1 ∙ has)
+              (λ t. stays (ap (λ (z : View T). z.closed) (sym (owner-is own)) ∙ h.known seat u t.1 has))
+              (at_set s.views id seat w u there);
           one = λ seat other u z x y there here' has has'. absurd (no-one seat u x there has);
         }
 
@@ -68,9 +79,19 @@ module _ {T : Type 0} (ready : T → Type 0) (done : T → T → Type 0) where
     stays : (words : List ℕ) → words ≡ s.words → Holds ready done record { words = words; homes = s.homes; views = set s.views id v }
     stays words same = subst (λ (z : List ℕ × List (View T)). Holds ready done record { words = z.0; homes = s.homes; views = z.1 }) (λ i. (sym same i, sym (set_again s.views id v here) i)) h
 
-    -- nothing is laid, so no worker has a task
+    -- nothing is laid: the word is 0 or 4
+    unlaid-word : h.owner.laid ≡ None → (get_or s.words 0 0 ≡ 0) ⊎ (get_or s.words 0 0 ≡ 4)
+    unlaid-word unlaid = by-bool h.owner.closed (λ is. inr (h.shut is).1) (λ unshut. inl (h.idle unlaid unshut))
+
+    -- so no worker has a task
     free-unlaid : id ≡ 0 → v.laid ≡ None → get_or s.words 0 0 ≢ 2
-    free-unlaid own unlaid two = ⊎_elim (λ z. absurd (omega arith)) (λ z. absurd (omega arith)) (h.idle (ap (λ (z : View T). z.laid) (owner-is own) ∙ unlaid))
+    free-unlaid own unlaid two = ⊎_elim (λ z. absurd (omega arith)) (λ z. absurd (omega arith)) (unlaid-word (ap (λ (z : View T). z.laid) (owner-is own) ∙ unlaid))
+
+    -- the word is 4: the owner has closed the slot
+    word-closed : get_or s.words 0 0 ≡ 4 → h.owner.closed ≡ true
+    word-closed four = by-bool h.owner.closed (λ is. is) (λ unshut. by-option h.owner.laid
+        (λ unlaid. let zero-word = h.idle unlaid unshut in absurd (omega arith))
+        (λ x laid. absurd (⊎_elim (λ t. let one = t.0 in omega arith) (λ t. ⊎_elim (λ two. omega arith) (λ t. let three = t.0 in omega arith) t) (h.laid x laid))))
 
     -- a worker's end is not the first seat
     worker-apart : v.works ≡ true → 0 ≢ id
@@ -78,13 +99,14 @@ module _ {T : Type 0} (ready : T → Type 0) (done : T → T → Type 0) where
 
     -- a step of a worker's end
     worker-step : (n : ℕ) (homes : List (mathlib.Core.Option.Option (Option T))) (w : View T) → v.works ≡ true → length homes ≡ 1
+        → w.closed ≡ v.closed
         → ((seat : ℕ) (u : View T) (x : T) → seat ≢ id → get_elem? s.views seat ≡ some u → u.taken ≢ Some x)
-        → (h.owner.laid ≡ None → (n ≡ 0) ⊎ (n ≡ 4))
+        → h.owner.laid ≢ None
         → (h.owner.fresh ≡ true → (h.owner.laid ≡ None) × (get_elem? homes 0 ≡ some (some None)))
         → ((x : T) → h.owner.laid ≡ Some x → IsSomewhere ready done n homes x)
         → ((x : T) → w.taken ≡ Some x → (n ≡ 2) × (h.owner.laid ≡ Some x))
         → Holds ready done record { words = set s.words 0 n; homes = homes; views = set s.views id w }
-    worker-step n homes w works long others idle fresh laid taken =
+    worker-step n homes w works long same others some-laid fresh laid taken =
         let only : (seat : ℕ) (u : View T) (x : T) → get_elem? (set s.views id w) seat ≡ some u → u.taken ≡ Some x → (seat ≡ id) × (w ≡ u) = λ seat u x there has. ⊎_elim
         (λ t. t)
         (λ t. absurd (others seat u x t.0 t.1 has))
@@ -95,7 +117,12 @@ module _ {T : Type 0} (ready : T → Type 0) (done : T → T → Type 0) where
           owner = h.owner;
           first = set_else s.views id 0 w (worker-apart works) ∙ h.first;
           apart = h.apart;
-          idle = λ unlaid. ⊎_elim (λ at. inl (after ∙ at)) (λ at. inr (after ∙ at)) (idle unlaid);
+          idle = λ unlaid unshut. absurd (some-laid unlaid);
+          shut = λ is. absurd (some-laid (h.shut is).0);
+          known = λ seat u there has. ⊎_elim
+              (λ t. h.known id v here (sym same ∙ ap (λ (z : View T). z.closed) t.1 ∙ has))
+              (λ t. h.known seat u t.1 has)
+              (at_set s.views id seat w u there);
           fresh = fresh;
           laid = λ x is. subst (λ k. IsSomewhere ready done k homes x) (sym after) (laid x is);
           taken = λ seat u x there has. let t = taken x (ap (λ (z : View T). z.taken) (only seat u x there has).1 ∙ has) in (after ∙ t.0, t.1);
@@ -103,8 +130,8 @@ module _ {T : Type 0} (ready : T → Type 0) (done : T → T → Type 0) where
         }
 
   -- an empty slot is taken from a new slot
-  pub begins-empty : (slots id : ℕ) (me : Holding T) → id ≡ 0 → me.0.fresh ≡ true → Allows (Holds ready done) slots id me 0 (λ _. 0) (λ _. begins (step slots 0 0 0 none) me 0)
-  begins-empty slots id me own fresh s h long here small =
+  pub begins-empty : (slots id : ℕ) (me : Holding T) → id ≡ 0 → me.0.fresh ≡ true → me.0.closed ≡ false → Allows (Holds ready done) slots id me 0 (λ _. 0) (λ _. begins (step slots 0 0 0 none) me 0)
+  begins-empty slots id me own fresh unshut s h long here small =
       let is : h.owner ≡ me.0 = owner-is s h id me.0 here own in
       let at = h.fresh (ap (λ (z : View T). z.fresh) is ∙ fresh) in
       let unlaid : me.0.laid ≡ None = sym (ap (λ (z : View T). z.laid) is) ∙ at.0 in (
@@ -112,16 +139,18 @@ module _ {T : Type 0} (ready : T → Type 0) (done : T → T → Type 0) where
         takes 0 None,
         at.1,
         owner-step s h id me.0 here 0 (set s.homes 0 none) (laying me.0 None) own (free-unlaid s h id me.0 here own unlaid) (length-set s.homes 0 none ∙ h.deep) refl refl
-            (λ _. inl refl)
+            (λ is. absurd (false≢true (sym unshut ∙ is)))
+            (λ _ _. refl)
+            (λ no. absurd (false≢true no))
             (λ no. absurd (false≢true no))
             (λ x no. absurd (none-some x no)),
         refl,
       )
 
   -- a task is laid
-  pub lays-task : (slots id : ℕ) (me : Holding T) (x : T) → id ≡ 0 → me.0.laid ≡ None → me.1 ≡ (0, Some x) ∷ [] → ready x
+  pub lays-task : (slots id : ℕ) (me : Holding T) (x : T) → id ≡ 0 → me.0.laid ≡ None → me.0.closed ≡ false → me.1 ≡ (0, Some x) ∷ [] → ready x
       → Allows (Holds ready done) slots id me 0 (λ _. 1) (λ _. lays (step slots 0 1 0 none) me 1)
-  lays-task slots id me x own unlaid held may s h long here small =
+  lays-task slots id me x own unlaid unshut held may s h long here small =
       let w : View T = laying me.0 (Some x) in
       let homes : List (mathlib.Core.Option.Option (Option T)) = set s.homes 0 (some (Some x)) in
       let deep = h.deep in (
@@ -130,7 +159,9 @@ module _ {T : Type 0} (ready : T → Type 0) (done : T → T → Type 0) where
         tt,
         subst (λ hs. Holds ready done record { words = set s.words 0 1; homes = hs; views = set s.views id w }) (sym (ap (put_back s.homes) held))
             (owner-step s h id me.0 here 1 homes w own (free-unlaid s h id me.0 here own unlaid) (length-set s.homes 0 (some (Some x)) ∙ h.deep) refl refl
-            (λ no. absurd (none-some x (sym no)))
+            (λ is. absurd (false≢true (sym unshut ∙ is)))
+            (λ no _. absurd (none-some x (sym no)))
+            (λ no. absurd (false≢true no))
             (λ no. absurd (false≢true no))
             (λ y is. let same : x ≡ y = some-one x y is in inl (refl, subst ready same may, subst (λ z. get_elem? homes 0 ≡ some (some (Some z))) same (set_here s.homes 0 (some (Some x)) (omega arith))))),
         let told : lays (step slots 0 1 0 none) me 1 (w, rest me.1) = ap (λ l. (laying me.0 (in_front l), rest me.1)) (sym held) in told,
@@ -139,11 +170,13 @@ module _ {T : Type 0} (ready : T → Type 0) (done : T → T → Type 0) where
   -- the slot is closed
   pub closes-slot : (slots id : ℕ) (me : Holding T) → id ≡ 0 → me.0.fresh ≡ false → me.0.laid ≡ None → Allows (Holds ready done) slots id me 0 (λ _. 4) (λ _. closes (step slots 0 4 0 none) me 4)
   closes-slot slots id me own old unlaid s h long here small = (
-    me.0,
+    knowing me.0 true,
     keeps,
     tt,
-    owner-step s h id me.0 here 4 s.homes me.0 own (free-unlaid s h id me.0 here own unlaid) h.deep refl refl
-        (λ _. inr refl)
+    owner-step s h id me.0 here 4 s.homes (knowing me.0 true) own (free-unlaid s h id me.0 here own unlaid) h.deep refl refl
+        (λ _. refl)
+        (λ _ no. absurd (false≢true (sym no)))
+        (λ _. (unlaid, refl))
         (λ no. absurd (false≢true (sym old ∙ no)))
         (λ x no. absurd (none-some x (sym unlaid ∙ no))),
     refl,
@@ -180,7 +213,9 @@ module _ {T : Type 0} (ready : T → Type 0) (done : T → T → Type 0) where
       let back : (y : T) × done x y × (get_elem? s.homes 0 ≡ some (some (Some y))) = ⊎_elim (λ t. let at = t.0 in absurd (omega arith)) (λ t. ⊎_elim (λ two. absurd (omega arith)) (λ t. (t.1, t.2, t.3)) t) (h.laid x is) in
       met slots id 3 0 me (TakesBack done me) s (laying me.0 None) (Some back.0) lies back.2
       (owner-step s h id me.0 here 0 (set s.homes 0 none) (laying me.0 None) own (λ two. omega arith) (length-set s.homes 0 none ∙ h.deep) refl refl
-      (λ _. inl refl)
+      (λ is. let four = (h.shut (ap (λ (z : View T). z.closed) (owner-is s h id me.0 here own) ∙ is)).1 in absurd (omega arith))
+      (λ _ _. refl)
+      (λ no. absurd (false≢true no))
       (λ no. absurd (false≢true no))
       (λ y no. absurd (none-some y no)))
       (x, back.0, laid, back.1, refl))
@@ -191,12 +226,13 @@ module _ {T : Type 0} (ready : T → Type 0) (done : T → T → Type 0) where
       → Allows (Holds ready done) slots id me 0 (λ n. either (eqb n 1) 2 n) (takes_task ready (step slots 0 1 2 none) me)
   takes-task slots id me works idle s h long here small = let n : ℕ = get_or s.words 0 0 in dite (ℕ_discrete n 1)
       (λ lies. by-option h.owner.laid
-      (λ unlaid. absurd (⊎_elim (λ z. omega arith) (λ z. omega arith) (h.idle unlaid)))
+      (λ unlaid. absurd (⊎_elim (λ z. omega arith) (λ z. omega arith) (unlaid-word s h id me.0 here unlaid)))
       (λ x laid. let at : ready x × (get_elem? s.homes 0 ≡ some (some (Some x))) = ⊎_elim (λ t. (t.1, t.2)) (λ t. ⊎_elim (λ two. absurd (omega arith)) (λ t. let three = t.0 in absurd (omega arith)) t) (h.laid x laid) in
       met slots id 1 2 me (TakesTask ready me) s (taking me.0 (Some x)) (Some x) lies at.1
       (worker-step s h id me.0 here 2 (set s.homes 0 none) (taking me.0 (Some x)) works (length-set s.homes 0 none ∙ h.deep)
+      refl
       (λ seat u y apart there has. let two = (h.taken seat u y there has).0 in omega arith)
-      (λ unlaid. absurd (none-some x (sym unlaid ∙ laid)))
+      (λ unlaid. none-some x (sym unlaid ∙ laid))
       (λ new. absurd (none-some x (sym (h.fresh new).0 ∙ laid)))
       (λ y _. inr (inl refl))
       (λ y has. (refl, laid ∙ has)))
@@ -216,11 +252,44 @@ module _ {T : Type 0} (ready : T → Type 0) (done : T → T → Type 0) where
         tt,
         subst (λ hs. Holds ready done record { words = set s.words 0 3; homes = hs; views = set s.views id w }) (sym (ap (put_back s.homes) held))
             (worker-step s h id me.0 here 3 homes w works (length-set s.homes 0 (some (Some y)) ∙ h.deep)
+            refl
             (λ seat u z apart there has. apart (h.one seat id u me.0 z x there here has taken))
-            (λ unlaid. absurd (none-some x (sym unlaid ∙ laid)))
+            (λ unlaid. none-some x (sym unlaid ∙ laid))
             (λ new. absurd (none-some x (sym (h.fresh new).0 ∙ laid)))
             (λ z was. inr (inr (refl, y, subst (λ q. done q y) (some-one x z (sym laid ∙ was)) is, set_here s.homes 0 (some (Some y)) (omega arith))))
             (λ z no. absurd (none-some z no))),
+        refl,
+      )
+
+  -- a worker looks whether the slot is closed
+  pub looks-at : (slots id : ℕ) (me : Holding T) → me.0.works ≡ true → Allows (Holds ready done) slots id me 0 (λ n. n) (looks (step slots 0 0 0 none) me)
+  looks-at slots id me works s h long here small =
+      let n : ℕ = get_or s.words 0 0 in
+      let w : View T = knowing me.0 (eqb n 4) in
+      let was : (seat : ℕ) (u : View T) → get_elem? (set s.views id w) seat ≡ some u → (t : View T) × (get_elem? s.views seat ≡ some t) × (t.taken ≡ u.taken) = λ seat u there. ⊎_elim
+      (λ t. (me.0, subst (λ k. get_elem? s.views k ≡ some me.0) (sym t.0) here, ap (λ (z : View T). z.taken) t.1))
+      (λ t. (u, t.1, refl))
+      (at_set s.views id seat w u there) in (
+        w,
+        keeps,
+        tt,
+        subst (λ (words : List ℕ). Holds ready done record { words = words; homes = s.homes; views = set s.views id w }) (sym (set-get_or s.words 0 0)) record {
+          wide = h.wide;
+          deep = h.deep;
+          owner = h.owner;
+          first = set_else s.views id 0 w (worker-apart s h id me.0 here works) ∙ h.first;
+          apart = h.apart;
+          idle = h.idle;
+          shut = h.shut;
+          fresh = h.fresh;
+          laid = h.laid;
+          taken = λ seat u x there has. (let t = was seat u there in h.taken seat t.0 x t.1 (t.2 ∙ has));
+          known = λ seat u there has. ⊎_elim
+              (λ t. word-closed s h id me.0 here (eqb-true n 4 (ap (λ (z : View T). z.closed) t.1 ∙ has)))
+              (λ t. h.known seat u t.1 has)
+              (at_set s.views id seat w u there);
+          one = λ seat other u z x y there here' has has'. (let t = was seat u there in let o = was other z here' in h.one seat other t.0 o.0 x y t.1 o.1 (t.2 ∙ has) (o.2 ∙ has'));
+        },
         refl,
       )
 
@@ -232,6 +301,10 @@ module _ {T : Type 0} (ready : T → Type 0) (done : T → T → Type 0) where
       (λ t. t)
       (λ t. absurd (none-some x (ap (λ (z : View T). z.taken) t ∙ has)))
       (at_snoc s.views (worker_view v) u seat there) in
+      let known : (seat : ℕ) (u : View T) → get_elem? (s.views ++ worker_view v ∷ []) seat ≡ some u → u.closed ≡ true → h.owner.closed ≡ true = λ seat u there has. ⊎_elim
+      (λ t. h.known seat u t has)
+      (λ t. absurd (false≢true (ap (λ (z : View T). z.closed) t ∙ has)))
+      (at_snoc s.views (worker_view v) u seat there) in
       subst (λ (vs : List (View T)). Holds ready done record { words = s.words; homes = s.homes; views = vs ++ worker_view v ∷ [] }) (sym back) record {
         wide = h.wide;
         deep = h.deep;
@@ -239,6 +312,8 @@ module _ {T : Type 0} (ready : T → Type 0) (done : T → T → Type 0) where
         first = at_longer s.views (worker_view v ∷ []) 0 h.owner h.first;
         apart = h.apart;
         idle = h.idle;
+        shut = h.shut;
+        known = known;
         fresh = h.fresh;
         laid = h.laid;
         taken = λ seat u x there has. h.taken seat u x (fromold seat u x there has) has;
@@ -253,7 +328,9 @@ module _ {T : Type 0} (ready : T → Type 0) (done : T → T → Type 0) where
     owner = first_view;
     first = refl;
     apart = refl;
-    idle = λ _. inl refl;
+    idle = λ _ _. refl;
+    shut = λ no. absurd (false≢true no);
+    known = λ seat u there has. absurd (unknown seat u there has);
     fresh = λ _. (refl, refl);
     laid = λ x no. absurd (none-some x no);
     taken = λ seat u x there has. absurd (alone seat u x there has);
@@ -263,3 +340,7 @@ module _ {T : Type 0} (ready : T → Type 0) (done : T → T → Type 0) where
       alone : (seat : ℕ) (u : View T) (x : T) → get_elem? (first_view {T = T} ∷ []) seat ≡ some u → u.taken ≡ Some x → ⊥
       alone zero u x there has = none-some x (ap (λ (z : View T). z.taken) (some-injective first_view u there) ∙ has)
       alone (suc seat) u x there has = some-ne-none u (sym there)
+
+      unknown : (seat : ℕ) (u : View T) → get_elem? (first_view {T = T} ∷ []) seat ≡ some u → u.closed ≡ true → ⊥
+      unknown zero u there has = false≢true (ap (λ (z : View T). z.closed) (some-injective first_view u there) ∙ has)
+      unknown (suc seat) u there has = some-ne-none u (sym there)

@@ -1,5 +1,5 @@
 -- What is known of slots and of their ends. No public clause cites these.
-use Rattle.std.specs.Prelude.{◌≡◌, ◌≢◌, ◌<◌, ℕ, Option, None, Some, List, length, slice_index_or}
+use Rattle.std.specs.Prelude.{◌≡◌, ◌≢◌, ◌<◌, ℕ, Bool, true, false, Option, None, Some, List, [], ◌∷◌, length, slice_index_or}
 use Rattle.task_pool.specs.declared.slot.Slot.{Slot}
 use Rattle.task_pool.specs.declared.slot.SlotOwner.{SlotOwner}
 use Rattle.task_pool.specs.declared.slot.SlotWorker.{SlotWorker}
@@ -22,6 +22,18 @@ module _ {T : Type 0} where
   abbrev pub taken_of : SlotWorker T → Option T
   taken_of worker = worker.seat.me.0.taken
 
+  -- it has closed the slot
+  abbrev pub has_closed : SlotOwner T → Bool
+  has_closed owner = owner.seat.me.0.closed
+
+  -- it has found the slot closed
+  abbrev pub found_closed : SlotWorker T → Bool
+  found_closed worker = worker.seat.me.0.closed
+
+  -- the slot is open, and nothing is laid in it
+  abbrev pub IsOpen : SlotOwner T → Type 0
+  IsOpen owner = (laid_of owner ≡ None) × (has_closed owner ≡ false)
+
   -- it is a worker's end of this slot, and has no task
   abbrev pub IsFreeWorkerOf : Slot T → SlotWorker T → Type 0
   IsFreeWorkerOf slot worker = IsWorkerOf slot worker × (taken_of worker ≡ None)
@@ -39,16 +51,25 @@ module _ {T : Type 0} where
   abbrev pub AreWorkersOf : List (Slot T) → List (SlotWorker T) → Type 0
   AreWorkersOf = FitSlots IsFreeWorkerOf
 
+  -- there is no slot, or the first one was found closed
+  abbrev pub finds_closed : List (SlotWorker T) → Bool
+  finds_closed [] = true
+  finds_closed (worker ∷ more) = found_closed worker
+
   -- the slots before a place have an end each of one thread, with no task
   pub record AreFreeTo (place : ℕ) (slots : List (Slot T)) (workers : List (SlotWorker T)) : Type 0 where
     pub count : length workers ≡ place
     pub each : (k : ℕ) (slot : Slot T) (worker : SlotWorker T) → k < place → IsFreeWorkerOf (slice_index_or slots k slot) (slice_index_or workers k worker)
 
-  -- nothing is laid in any slot
+  -- all slots are open, and nothing is laid in any
   abbrev pub AreEmpty : List (SlotOwner T) → Type 0
-  AreEmpty owners = (k : ℕ) (owner : SlotOwner T) → k < length owners → laid_of (slice_index_or owners k owner) ≡ None
+  AreEmpty owners = (k : ℕ) (owner : SlotOwner T) → k < length owners → IsOpen (slice_index_or owners k owner)
 
-  -- the calling thread's ends of the slots: the owner's, with nothing laid, and a worker's, with no task
+  -- all slots are closed
+  abbrev pub AreClosed : List (SlotOwner T) → Type 0
+  AreClosed owners = (k : ℕ) (owner : SlotOwner T) → k < length owners → has_closed (slice_index_or owners k owner) ≡ true
+
+  -- the calling thread's ends of the slots: the owner's, open with nothing laid, and a worker's, with no task
   pub record AreCallerEnds (slots : List (Slot T)) (owners : List (SlotOwner T)) (workers : List (SlotWorker T)) : Type 0 where
     pub owned : AreOwnersOf slots owners
     pub empty : AreEmpty owners

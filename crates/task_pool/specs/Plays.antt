@@ -2,7 +2,7 @@
 use Rattle.std.specs.Prelude.{◌≡◌, ℕ, ◌==◌, Bool, true, false, Option, Some, None, List, [], ◌∷◌}
 use Rattle.atomic_table.specs.Table.{Me, Step, rest}
 use Rattle.task_pool.specs.declared.views.View.{View}
-use Rattle.task_pool.specs.Views.{laying, taking}
+use Rattle.task_pool.specs.Views.{knowing, laying, taking}
 
 -- an end's view, and the places of the table that it holds
 abbrev pub Holding : Type 0 → Type 0
@@ -26,9 +26,13 @@ module _ {T : Type 0} where
   abbrev pub puts_back : Step (Option T) → Holding T → ℕ → Holding T → Type 0
   puts_back s m found n = n ≡ (taking m.0 None, rest m.1)
 
-  -- nothing changed but the word
+  -- the slot was closed
   abbrev pub closes : Step (Option T) → Holding T → ℕ → Holding T → Type 0
-  closes s m found n = n ≡ m
+  closes s m found n = n ≡ (knowing m.0 true, m.1)
+
+  -- the slot was looked at: it is closed where the word is 4
+  abbrev pub looks : Step (Option T) → Holding T → ℕ → Holding T → Type 0
+  looks s m found n = n ≡ (knowing m.0 (found == 4), m.1)
 
   module _ (done : T → T → Type 0) where
     -- where the task was done, what became of it came back; else nothing changed

@@ -14,15 +14,18 @@ module _ {T : Type 0} (ready : T → Type 0) (done : T → T → Type 0) where
       ⊎ (word ≡ 2)
       ⊎ ((word ≡ 3) × (y : T) × done x y × (get_elem? homes 0 ≡ some (some (Some y))))
 
-  -- the first seat is the owner's; of the others at most one has taken a task, and that is the one that was laid
+  -- the first seat is the owner's, which knows whether the slot is closed; of the others at most one has taken a task, and that is the
+  -- one that was laid
   pub record Holds (s : State (Option T) (View T)) : Type 0 where
     pub wide : length s.words ≡ 1
     pub deep : length s.homes ≡ 1
     pub owner : View T
     pub first : get_elem? s.views 0 ≡ some owner
     pub apart : owner.works ≡ false
-    pub idle : owner.laid ≡ None → (slice_index s.words 0 ≡ 0) ⊎ (slice_index s.words 0 ≡ 4)
+    pub idle : owner.laid ≡ None → owner.closed ≡ false → slice_index s.words 0 ≡ 0
+    pub shut : owner.closed ≡ true → (owner.laid ≡ None) × (slice_index s.words 0 ≡ 4)
     pub fresh : owner.fresh ≡ true → (owner.laid ≡ None) × (get_elem? s.homes 0 ≡ some (some None))
     pub laid : (x : T) → owner.laid ≡ Some x → IsSomewhere (slice_index s.words 0) s.homes x
     pub taken : (seat : ℕ) (v : View T) (x : T) → get_elem? s.views seat ≡ some v → v.taken ≡ Some x → (slice_index s.words 0 ≡ 2) × (owner.laid ≡ Some x)
+    pub known : (seat : ℕ) (v : View T) → get_elem? s.views seat ≡ some v → v.closed ≡ true → owner.closed ≡ true
     pub one : (seat other : ℕ) (v w : View T) (x y : T) → get_elem? s.views seat ≡ some v → get_elem? s.views other ≡ some w → v.taken ≡ Some x → w.taken ≡ Some y → seat ≡ other

@@ -1,9 +1,9 @@
 //! What the ends of a slot do.
-ghost use Rattle.std.specs.Prelude.{◌≡◌, ◌≢◌, None, Some, IfNone, IfOk, IfSome};
+ghost use Rattle.std.specs.Prelude.{◌≡◌, ◌≢◌, true, false, None, Some, IfNone, IfOk, IfSome};
 ghost use Rattle.task_pool.specs.Places.{IsBack};
-ghost use Rattle.task_pool.specs.Known.{IsOwnerOf, IsWorkerOf, laid_of, taken_of};
+ghost use Rattle.task_pool.specs.Known.{IsOpen, IsOwnerOf, IsWorkerOf, found_closed, has_closed, laid_of, taken_of};
 
-use crate::rule::{Begin, Close, Lay, PutBack, SeatWorker, TakeBack, TakeTask};
+use crate::rule::{Begin, Close, Lay, Look, PutBack, SeatWorker, TakeBack, TakeTask};
 use crate::slot::{Slot, SlotOwner, SlotWorker};
 use crate::task::Task;
 use atomic_table::Table;
@@ -33,7 +33,7 @@ pub(crate) fn pause(looks: u64) -> u64 {
 impl<T: Task + Drop> Slot<T> {
     /// A new slot, with nothing in it. `Err`: out of memory.
     pub fn new(alloc: Global) -> Result<(Slot<T>, SlotOwner<T>), AllocError>
-        ensures { IfOk result (λ r. IsOwnerOf r.0 r.1 × (laid_of r.1 ≡ None)) }
+        ensures { IfOk result (λ r. IsOwnerOf r.0 r.1 × IsOpen r.1) }
     {
         let (table, mut seat) = Table::vacant(alloc, &[0], 1, &())?;
         table.shared.store::<Begin>(&mut seat, 0, 0);
@@ -44,16 +44,17 @@ impl<T: Task + Drop> Slot<T> {
     pub fn worker(&self, owner: &mut SlotOwner<T>) -> SlotWorker<T>
         requires { IsOwnerOf self.now owner.old }
         ensures owner { IsOwnerOf self.now owner.new × (laid_of owner.new ≡ laid_of owner.old) }
+        ensures closed { has_closed owner.new ≡ has_closed owner.old }
         ensures worker { IsWorkerOf self.now result × (taken_of result ≡ None) }
     {
         let seat = self.table.shared.split_seat::<SeatWorker>(&mut owner.seat);
         SlotWorker { seat, byte: 0 }
     }
 
-    /// Lays a task in the slot.
+    /// Lays a task in the slot, which is open.
     pub fn lay(&self, owner: &mut SlotOwner<T>, task: T)
         requires slot { IsOwnerOf self.now owner.old }
-        requires free { laid_of owner.old ≡ None }
+        requires empty { IsOpen owner.old }
         requires ready { T.ready task }
         ensures { IsOwnerOf self.now owner.new × (laid_of owner.new ≡ Some task) }
     {
@@ -69,7 +70,7 @@ impl<T: Task + Drop> Slot<T> {
         requires slot { IsOwnerOf self.now owner.old }
         requires laid { laid_of owner.old ≢ None }
         ensures slot { IsOwnerOf self.now owner.new }
-        ensures back { IfSome result (λ task. IsBack T.done (laid_of owner.old) task × (laid_of owner.new ≡ None)) }
+        ensures back { IfSome result (λ task. IsBack T.done (laid_of owner.old) task × IsOpen owner.new) }
         ensures waits { IfNone result (laid_of owner.new ≡ laid_of owner.old) }
     {
         let shared = &self.table.shared;
@@ -86,7 +87,7 @@ impl<T: Task + Drop> Slot<T> {
     pub fn take_back<R: Wait>(&self, rt: &R, owner: &mut SlotOwner<T>) -> T
         requires slot { IsOwnerOf self.now owner.old }
         requires laid { laid_of owner.old ≢ None }
-        ensures slot { IsOwnerOf self.now owner.new × (laid_of owner.new ≡ None) }
+        ensures slot { IsOwnerOf self.now owner.new × IsOpen owner.new }
         ensures done { IsBack T.done (laid_of owner.old) result }
     {
         let mut looks = 0;
@@ -103,14 +104,19 @@ impl<T: Task + Drop> Slot<T> {
     pub fn close(&self, owner: &mut SlotOwner<T>)
         requires slot { IsOwnerOf self.now owner.old }
         requires free { laid_of owner.old ≡ None }
-        ensures { IsOwnerOf self.now owner.new × (laid_of owner.new ≡ None) }
+        ensures slot { IsOwnerOf self.now owner.new × (laid_of owner.new ≡ None) }
+        ensures closed { has_closed owner.new ≡ true }
     {
         self.table.shared.store::<Close>(&mut owner.seat, 0, 4);
     }
 
-    /// The slot was closed.
-    pub fn is_closed(&self) -> bool {
-        self.table.shared.peek(0) == 4
+    /// Looks whether the slot is closed: it is where its word is 4, and stays so.
+    pub fn is_closed(&self, worker: &mut SlotWorker<T>) -> bool
+        requires { IsWorkerOf self.now worker.old }
+        ensures slot { IsWorkerOf self.now worker.new × (taken_of worker.new ≡ taken_of worker.old) }
+        ensures closed { result ≡ found_closed worker.new }
+    {
+        self.table.shared.load::<Look>(&mut worker.seat, 0) == 4
     }
 
     /// Takes the task that lies in the slot, if one does.

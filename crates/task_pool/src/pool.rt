@@ -1,7 +1,7 @@
 //! A pool of threads that last.
 ghost use Rattle.std.specs.Prelude.{◌≡◌, IfOk, All, length, vec_len};
 ghost use denote.Param.Send.{IsSend, IsSync};
-ghost use Rattle.task_pool.specs.Known.{AreCallerEnds, AreEmpty, AreOwnersOf, AreWorkersOf};
+ghost use Rattle.task_pool.specs.Known.{AreCallerEnds, AreClosed, AreEmpty, AreOwnersOf, AreWorkersOf};
 ghost use Rattle.task_pool.specs.Threads.{AreThreadsOf};
 
 use crate::runner::TaskRunner;
@@ -100,21 +100,22 @@ fn other_threads<T: Task + Drop>(
     Ok(others)
 }
 
-// Does the job, and closes the slots.
+// Does the job, and closes the slots. Gives the ends that closed them beside what the job gives.
 fn run_and_close<T: Task + Drop, R: Threads + Wait + Sync, J: PoolJob<T> + Drop>(
     rt: &R,
     mut tasks: TaskRunner<'_, T>,
     job: J,
-) -> J::Output
+) -> (J::Output, Vec<SlotOwner<T>>)
     requires { J.can_run job tasks }
-    ensures { J.gives job result }
+    ensures output { J.gives job result.0 }
+    ensures closed { (vec_len result.1 ≡ tasks.entry) × AreClosed result.1.items }
 {
     let output = job.run(rt, &mut tasks);
-    tasks.close();
-    output
+    let owners = tasks.close();
+    (output, owners)
 }
 
-// Does the job in this thread, with a thread beside for each of the others.
+// Does the job in this thread, with a thread beside for each of the others, and closes the slots.
 #[cycle(threads)]
 fn run_beside<T: Task + Drop + Send, R: Threads + Wait + Sync, J: PoolJob<T> + Drop>(
     rt: &R,
@@ -123,11 +124,12 @@ fn run_beside<T: Task + Drop + Send, R: Threads + Wait + Sync, J: PoolJob<T> + D
     owners: Vec<SlotOwner<T>>,
     workers: Vec<SlotWorker<T>>,
     job: J,
-) -> J::Output
+) -> (J::Output, Vec<SlotOwner<T>>)
     requires others { AreThreadsOf slots.now others.items }
     requires ends { AreCallerEnds slots.now owners.items workers.items }
     requires job { J.can_run job (length slots.now) }
-    ensures { J.gives job result }
+    ensures output { J.gives job result.0 }
+    ensures closed { (vec_len result.1 ≡ length slots.now) × AreClosed result.1.items }
 {
     let Some(other) = others.pop() else {
         let tasks = TaskRunner {
@@ -143,16 +145,19 @@ fn run_beside<T: Task + Drop + Send, R: Threads + Wait + Sync, J: PoolJob<T> + D
     } = other;
     let beside = move || -> ()
         requires { IsSync R.row × IsSend T.row × AreWorkersOf slots.now their_workers.items }
-    { work(rt, slots, their_workers, first) };
-    let rest = move || -> J::Output
+    {
+        let _ = work(rt, slots, their_workers, first);
+    };
+    let rest = move || -> (J::Output, Vec<SlotOwner<T>>)
         requires crosses { IsSync R.row × IsSend T.row }
         requires others { AreThreadsOf slots.now others.items }
         requires ends { AreCallerEnds slots.now owners.items workers.items }
         requires job { J.can_run job (length slots.now) }
-        ensures { J.gives job result }
+        ensures output { J.gives job result.0 }
+        ensures closed { (vec_len result.1 ≡ length slots.entry.now) × AreClosed result.1.items }
     { run_beside(rt, slots, others, owners, workers, job) };
-    let ((), output) = join(rt, beside, rest);
-    output
+    let ((), ended) = join(rt, beside, rest);
+    ended
 }
 
 impl<T: Task + Drop + Send> TaskPool<T> {
@@ -187,6 +192,7 @@ impl<T: Task + Drop + Send> TaskPool<T> {
             workers,
             others,
         } = self;
-        run_beside(rt, slots.as_slice(), others, owners, workers, job)
+        let (output, _) = run_beside(rt, slots.as_slice(), others, owners, workers, job);
+        output
     }
 }

@@ -1,5 +1,5 @@
 //! The rule of a slot's table, and the names of its steps.
-ghost use Rattle.task_pool.specs.Plays.{begins, closes, lays, puts_back, takes_back, takes_task};
+ghost use Rattle.task_pool.specs.Plays.{begins, closes, lays, looks, puts_back, takes_back, takes_task};
 ghost use Rattle.task_pool.specs.Rule.{Holds};
 ghost use Rattle.task_pool.specs.Views.{first_view, worker_view};
 
@@ -63,6 +63,13 @@ pub struct Close;
 
 impl<T> Play<Option<T>, View<T>> for Close {
     ghost then = { closes };
+}
+
+/// Looks whether the slot is closed.
+pub struct Look;
+
+impl<T> Play<Option<T>, View<T>> for Look {
+    ghost then = { looks };
 }
 
 /// Makes an end for a worker.

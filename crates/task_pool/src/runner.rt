@@ -1,7 +1,7 @@
 //! The slots as the calling thread sees them.
 ghost use Rattle.std.specs.Prelude.{◌≡◌, ◌≤◌, [], All, vec_len, vec_capacity, length};
 ghost use Rattle.task_pool.specs.Batch.{AreDone};
-ghost use Rattle.task_pool.specs.Known.{AreAllLaid, AreEmpty, AreLaid, AreOwnersOf, AreTakenBack};
+ghost use Rattle.task_pool.specs.Known.{AreAllLaid, AreClosed, AreEmpty, AreLaid, AreOwnersOf, AreTakenBack};
 
 use crate::slot::{Slot, SlotOwner, SlotWorker};
 use crate::task::Task;
@@ -10,7 +10,7 @@ use std::marker::Model;
 use std::sync::Wait;
 use std::thread::Threads;
 
-/// The slots as the calling thread sees them, all empty. Contracts see their number.
+/// The slots as the calling thread sees them, all open and empty. Contracts see their number.
 ///
 /// docs/DESIGN.md, "Tasks and threads".
 #[derive(Drop)]
@@ -65,6 +65,17 @@ fn take_all_back<T: Task + Drop, R: Wait>(
     }
 }
 
+// Closes each slot.
+fn close_all<T: Task + Drop>(slots: &[Slot<T>], mut owners: Vec<SlotOwner<T>>) -> Vec<SlotOwner<T>>
+    requires owners { AreOwnersOf slots.now owners.items × AreEmpty owners.items }
+    ensures owners { AreOwnersOf slots.now result.items × AreClosed result.items }
+{
+    for place in 0..slots.len() {
+        slots[place].close(&mut owners[place]);
+    }
+    owners
+}
+
 impl<'a, T: Task + Drop> TaskRunner<'a, T> {
     /// All tasks done, in the same order, each by whichever thread is free, the calling one among them. It takes no memory.
     ///
@@ -81,10 +92,16 @@ impl<'a, T: Task + Drop> TaskRunner<'a, T> {
         tasks
     }
 
-    // Closes all slots.
-    pub(crate) fn close(mut self) {
-        for place in 0..self.slots.len() {
-            self.slots[place].close(&mut self.owners[place]);
-        }
+    // Closes all slots, and gives the ends that closed them.
+    pub(crate) fn close(self) -> Vec<SlotOwner<T>>
+        ensures count { vec_len result ≡ self.entry }
+        ensures closed { AreClosed result.items }
+    {
+        let TaskRunner {
+            slots,
+            owners,
+            workers: _,
+        } = self;
+        close_all(slots, owners)
     }
 }

@@ -10,4 +10,6 @@ pub struct View<T> {
     pub laid: Option<T>,
     /// The task that it has taken, and not put back.
     pub taken: Option<T>,
+    /// It has closed the slot, or has found it closed.
+    pub closed: bool,
 }

@@ -1,6 +1,6 @@
 //! What a thread of the pool does: it goes over the slots, and does the tasks that it finds.
-ghost use Rattle.std.specs.Prelude.{◌≡◌, None};
-ghost use Rattle.task_pool.specs.Known.{AreWorkersOf, IsWorkerOf, taken_of};
+ghost use Rattle.std.specs.Prelude.{◌≡◌, true, None};
+ghost use Rattle.task_pool.specs.Known.{AreWorkersOf, IsWorkerOf, finds_closed, taken_of};
 
 use crate::ends::pause;
 use crate::slot::{Slot, SlotWorker};
@@ -49,19 +49,32 @@ pub(crate) fn do_tasks<T: Task + Drop, R: Threads + Wait + Sync>(
     found
 }
 
-// Does tasks until the slots are closed.
+// Looks whether the first slot is closed, or there is none.
+fn first_is_closed<T: Task + Drop>(slots: &[Slot<T>], workers: &mut [SlotWorker<T>]) -> bool
+    requires { AreWorkersOf slots.now workers.old }
+    ensures workers { AreWorkersOf slots.now workers.new }
+    ensures closed { result ≡ finds_closed workers.new }
+{
+    if slots.is_empty() {
+        return true;
+    }
+    slots[0].is_closed(&mut workers[0])
+}
+
+// Does tasks until the slots are closed, and gives the thread's ends of them.
 pub(crate) fn work<T: Task + Drop, R: Threads + Wait + Sync>(
     rt: &R,
     slots: &[Slot<T>],
     mut workers: Vec<SlotWorker<T>>,
     first: usize,
-)
+) -> Vec<SlotWorker<T>>
     requires { AreWorkersOf slots.now workers.items }
+    ensures { finds_closed result.items ≡ true }
 {
     let mut looks = 0;
     for _ in rt.forever() {
-        if slots.is_empty() || slots[0].is_closed() {
-            return;
+        if first_is_closed(slots, workers.as_mut_slice()) {
+            return workers;
         }
         looks = if do_tasks(rt, slots, workers.as_mut_slice(), first) {
             0
@@ -69,4 +82,5 @@ pub(crate) fn work<T: Task + Drop, R: Threads + Wait + Sync>(
             pause(looks)
         };
     }
+    unreachable!()
 }

@@ -13,14 +13,14 @@ renew_line-requires-clause-calls c =
 pub renew_line-requires-clause-ready : goal.renew_line-requires-clause-ready
 renew_line-requires-clause-ready c =
     let l = c.loop-node in
-    let at = at-node l.lines.items l.node c.index_mut.result.now (omega (arith, c.loop-node-test.true, c.nodes-node-end.ensures.value, l.invariant.count, c.requires.count)) c.index_mut.ensures.value in
+    let at = at-node l.lines.items l.node c.index_mut.result.now (omega (arith, c.loop-node-test.true, c.nodes-nodes.ensures.value, l.invariant.count, c.requires.count)) c.index_mut.ensures.value in
     subst (IsReady (plan_at c.args.net.now l.node) c.args.now) (sym (at ∙ l.invariant.rest l.node (omega arith)))
-    (c.requires.ready l.node (omega (arith, c.loop-node-test.true, c.nodes-node-end.ensures.value)))
+    (c.requires.ready l.node (omega (arith, c.loop-node-test.true, c.nodes-nodes.ensures.value)))
 
 pub loop-node-preserved : goal.loop-node-preserved
 loop-node-preserved c =
     let l = c.loop-node in
-    let at = at-node l.lines.items l.node c.index_mut.result.now (omega (arith, c.loop-node-test.true, c.nodes-node-end.ensures.value, l.invariant.count, c.requires.count)) c.index_mut.ensures.value in
-    more-renewed c.args.net.now c.args.near.now c.args.now l.node c.args.lines.now.items l.lines.items c.index_mut.result.now c.renew_line.new.line
-    (omega (arith, c.loop-node-test.true, c.nodes-node-end.ensures.value, c.requires.count)) l.invariant at
+    let at = at-node l.lines.items l.node c.index_mut.result.now (omega (arith, c.loop-node-test.true, c.nodes-nodes.ensures.value, l.invariant.count, c.requires.count)) c.index_mut.ensures.value in
+    more-renewed c.args.net.now c.args.near.now c.args.now l.node c.args.lines.items l.lines.items c.index_mut.result.now c.renew_line.new.line
+    (omega (arith, c.loop-node-test.true, c.nodes-nodes.ensures.value, c.requires.count)) l.invariant at
     (subst (λ (cs : List ℕ). IsRenewed c.args.net.now cs c.args.now l.node c.index_mut.result.now c.renew_line.new.line) (c.as_slice.ensures.value ∙ c.in_ok-list_calls.ensures) c.in_ok-renew_line.ensures)
