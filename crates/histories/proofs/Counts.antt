@@ -1,8 +1,9 @@
 -- How often nodes stand in a history.
-use Rattle.std.proofs.Common.{◌≡◌, ℕ, zero, suc, ◌+◌, ◌*◌, ◌<◌, ◌≤◌, eqb, cond, List, [], ◌∷◌, ◌++◌, refl, sym, ap, ◌∙◌, arith, eq-eqb, ne_eqb, inl, inr}
+use Rattle.std.proofs.Common.{◌≡◌, ℕ, zero, suc, ◌+◌, ◌*◌, ◌<◌, ◌≤◌, eqb, cond, List, [], ◌∷◌, ◌++◌, take, drop, refl, sym, ap, ◌∙◌, arith, eq-eqb, ne_eqb, inl, inr}
 use Rattle.std.specs.Prelude.{replicate, ◌⊎◌}
 use Rattle.std.specs.List.{flat_map, range_with_len}
-use Rattle.std.proofs.lemmas.Bool.{cases_eq}
+use Rattle.std.proofs.lemmas.Bool.{cases_eq, cases_lt}
+use Rattle.std.proofs.lemmas.List.{take-append-drop, take-take}
 use Rattle.std.proofs.lemmas.List.Sums.{sum_by-append, sum_by-cons}
 use Rattle.std.proofs.lemmas.List.Folds.{sum_by-replicate}
 use Rattle.histories.specs.Histories.{count}
@@ -18,6 +19,19 @@ count-else m n xs other = sum_by-cons (λ m. cond (eqb m n) 1 0) m xs ∙ ap (λ
 
 pub count-one : (n : ℕ) → count n (n ∷ []) ≡ 1
 count-one n = count-here n []
+
+-- of two places of a node, that of the earlier step comes first
+count-part : (n i : ℕ) (xs : List ℕ) → count n (take i xs) ≤ count n xs
+count-part n i xs = omega (arith, ap (count n) (take-append-drop i xs), count-append n (take i xs) (drop i xs))
+
+pub count-grows : (n i j : ℕ) (h : List ℕ) → i ≤ j → count n (take i h) ≤ count n (take j h)
+count-grows n i j h less = omega (arith, count-part n i (take j h), ap (count n) (take-take i j h less))
+
+pub comes-first : (n i j : ℕ) (h : List ℕ) → count n (take i h) < count n (take j h) → i < j
+comes-first n i j h less = elim (cases_lt i j) [
+  | inl before ↦ before
+  | inr past ↦ absurd (omega (arith, count-grows n j i h past))
+]
 
 -- a history in which no node stands is empty
 pub no-count : (xs : List ℕ) → ((n : ℕ) → count n xs ≡ 0) → xs ≡ []

@@ -1,14 +1,15 @@
 -- How far a history has come, as counts of the steps that are left in a round.
 use Rattle.std.proofs.Common.{◌≡◌, true, false, Result, Ok, Err, OnOk, OnErr, is_err, ℕ, zero, suc, ◌+◌, ◌-◌, ◌<◌, ◌≤◌, List, [], ◌∷◌, ◌++◌, length, take, drop, get_or, set, All, refl, sym, ap, ◌∙◌, subst, inl, inr, arith, append_assoc, eqb, eq-eqb, ◌==◌, if◌then◌else◌}
-use Rattle.std.specs.Prelude.{◌⊎◌, IsTrue, sum_by, replicate}
-use Rattle.std.proofs.lemmas.List.Elements.{All-replicate, All-set}
+use Rattle.std.specs.Prelude.{◌⊎◌, IsTrue, sum_by}
+use Rattle.std.proofs.lemmas.List.Elements.{All-nil, All-push}
 use Rattle.std.proofs.lemmas.Bool.{cases_eq, cases_lt, cond_both, eqb-true, eqb-false, false≢true, true≢false}
-use Rattle.std.proofs.lemmas.List.{take_more, take-append-drop, length-replicate, get_or-set_same, get_or-set_other, length-set}
+use Rattle.std.proofs.lemmas.List.{take_more, take-append-drop, get_or-set_same, get_or-set_other, get_or_append_left, get_or_past, get_or_push, length-append}
 use Rattle.std.proofs.lemmas.List.Sums.{sum_by-cons, sum_by-set}
 use Rattle.histories.specs.declared.steps.BoardStep.{BoardStep}
 use Rattle.histories.specs.Histories.{count, HasRounds, IsUnderWay, IsLawful}
 use Rattle.histories.specs.Progress.{Course, HasCome, IsDoneInRound, IsStuck}
 use Rattle.histories.specs.Steps.{board_steps}
+use Rattle.net_parts.specs.Limits.{most_links}
 use Rattle.net_parts.specs.Numbers.{Net}
 use Rattle.histories.proofs.Counts.{count-append, count-else, count-one}
 use Rattle.histories.proofs.Rounds.{begun, next, all-done, has-all, step-more, round-more, over-at-once}
@@ -27,37 +28,30 @@ none-left (x ∷ xs) none zero = omega (arith, none, sum_by-cons (λ c. c) x xs)
 none-left (x ∷ xs) none (suc n) = none-left xs (omega (arith, none, sum_by-cons (λ c. c) x xs)) n
 
 module _ (steps : ℕ → List BoardStep) where
-  -- the counts of the nodes below a number; 0 for the others
+  -- the counts of the nodes below a number
   pub record HaveCounts (nodes : ℕ) (counts : List ℕ) : Type 0 where
-    pub long : length counts ≡ 64
-    pub below : (n : ℕ) → n < nodes → get_or counts n 0 ≡ length (steps n)
-    pub others : (n : ℕ) → nodes ≤ n → get_or counts n 0 ≡ 0
-    pub few : All (λ c. c ≤ 320) counts
+    pub long : length counts ≡ nodes
+    pub each : (n : ℕ) → n < nodes → get_or counts n 0 ≡ length (steps n)
+    pub few : All (λ c. c ≤ most_links) counts
 
   -- the counts, node by node
-  pub counts-none : HaveCounts 0 (replicate 64 0)
-  counts-none = record { long = length-replicate 64 (let z : ℕ = 0 in z); below = λ n less. absurd (omega arith); others = λ n from. zeros 64 n; few = All-replicate (λ (c : ℕ). c ≤ 320) 64 0 (omega arith) }
-    where
-      zeros : (k n : ℕ) → get_or {A = ℕ} (replicate k 0) n 0 ≡ 0
-      zeros zero n = refl
-      zeros (suc k) zero = refl
-      zeros (suc k) (suc n) = zeros k n
+  pub counts-none : (counts : List ℕ) → counts ≡ [] → HaveCounts 0 counts
+  counts-none counts none = rw none (record { long = refl; each = λ n less. absurd (omega arith); few = All-nil (λ c. c ≤ most_links) })
 
-  pub counts-more : (node own : ℕ) (counts : List ℕ) → HaveCounts node counts → node < 64 → own ≡ length (steps node) → own ≤ 320 → HaveCounts (node + 1) (set counts node own)
-  counts-more node own counts have inside is few = record {
-    long = length-set counts node own ∙ have.long;
-    below = λ n less. elim (cases_eq node n) [
-      | inl e ↦ ap (λ k. get_or (set counts node own) k 0) (sym e) ∙ get_or-set_same counts node own 0 (let l = have.long in omega arith) ∙ is ∙ ap (λ k. length (steps k)) e
-      | inr other ↦ get_or-set_other counts node n own 0 (λ f. other (sym f)) ∙ have.below n (omega arith)
+  pub counts-more : (node own : ℕ) (counts more : List ℕ) → HaveCounts node counts → own ≡ length (steps node) → own ≤ most_links → more ≡ counts ++ own ∷ [] → HaveCounts (node + 1) more
+  counts-more node own counts more have is few pushed = rw pushed (record {
+    long = length-append counts (own ∷ []) ∙ ap (λ k. k + 1) have.long;
+    each = λ n less. elim (cases_lt n node) [
+      | inl below ↦ get_or_append_left counts (own ∷ []) 0 n (omega (arith, below, have.long)) ∙ have.each n below
+      | inr last ↦ (let e : n ≡ node = omega (arith, less, last) in get_or_push counts own 0 n (have.long ∙ sym e) ∙ is ∙ ap (λ k. length (steps k)) (sym e))
     ];
-    others = λ n from. get_or-set_other counts node n own 0 (λ f. (omega arith)) ∙ have.others n (omega arith);
-    few = All-set (λ c. c ≤ 320) counts node own few have.few;
-  }
+    few = All-push (λ c. c ≤ most_links) counts own have.few few;
+  })
 
   pub counts-all : (nodes : ℕ) (counts : List ℕ) → HaveCounts nodes counts → ((n : ℕ) → nodes ≤ n → steps n ≡ []) → (n : ℕ) → get_or counts n 0 ≡ length (steps n)
   counts-all nodes counts have beyond n = elim (cases_lt n nodes) [
-    | inl below ↦ have.below n below
-    | inr past ↦ have.others n past ∙ sym (ap length (beyond n past))
+    | inl below ↦ have.each n below
+    | inr past ↦ get_or_past counts n 0 (omega (arith, past, have.long)) ∙ sym (ap length (beyond n past))
   ]
 
 -- a history at its begin: no round is done, or all, where no node has a step
@@ -78,13 +72,14 @@ module _ (net : Net) (steps : List ℕ) (are : (n : ℕ) → get_or steps n 0 �
       no-steps [] e = refl
       no-steps (x ∷ xs) e = absurd (omega arith)
 
-  pub come-begin : (whole rounds done : ℕ) → whole ≡ all_of steps → rounds ≡ net.run.rounds → done ≡ (if whole == 0 then rounds else 0) → HasCome net [] (record { rounds = rounds; done = done; steps = steps; left = steps })
-  come-begin whole rounds done is same by =
-      subst (λ r. HasCome net [] (record { rounds = r; done = done; steps = steps; left = steps })) (sym same)
+  pub come-begin : (whole rounds done : ℕ) (left : List ℕ) → whole ≡ all_of steps → rounds ≡ net.run.rounds → done ≡ (if whole == 0 then rounds else 0) → left ≡ steps → HasCome net [] (record { rounds = rounds; done = done; steps = steps; left = left })
+  come-begin whole rounds done left is same by all =
+      subst (λ l. HasCome net [] (record { rounds = rounds; done = done; steps = steps; left = l })) (sym all)
+      (subst (λ r. HasCome net [] (record { rounds = r; done = done; steps = steps; left = steps })) (sym same)
       (subst (λ d. HasCome net [] (at d)) (sym (by ∙ ap (λ r. if whole == 0 then r else 0) same))
       (cond_both (whole == 0) net.run.rounds 0 (λ d. HasCome net [] (at d))
       (λ e. come-none (omega (arith, is, eqb-true whole 0 e)))
-      (λ e. come-some (elim (cases_lt 0 whole) [ inl some ↦ omega (arith, is, some) | inr none ↦ absurd (eqb-false whole 0 e (omega (arith, none))) ]))))
+      (λ e. come-some (elim (cases_lt 0 whole) [ inl some ↦ omega (arith, is, some) | inr none ↦ absurd (eqb-false whole 0 e (omega (arith, none))) ])))))
 
 -- a history that has come so far
 module _ (net : Net) (h : List ℕ) (p : Course) (come : HasCome net h p) where
@@ -110,22 +105,24 @@ module _ (net : Net) (h : List ℕ) (p : Course) (come : HasCome net h p) where
     ]
 
     -- within the round
-    pub come-step : 0 < all_of (set p.left n x) → HasCome net (h ++ n ∷ []) (record p { left = set p.left n x })
-    come-step some =
+    pub come-step : (left : List ℕ) → left ≡ set p.left n x → 0 < all_of (set p.left n x) → HasCome net (h ++ n ∷ []) (record p { left = left })
+    come-step left is some =
         let (m, k) = some-left (set p.left n x) some in
-        record { rounds = come.rounds; steps = come.steps; way = step-more (board_steps net) p.rounds p.done h come.way n less room m (omega (arith, left-more m, k)); left = left-more }
+        subst (λ l. HasCome net (h ++ n ∷ []) (record p { left = l })) (sym is)
+        (record { rounds = come.rounds; steps = come.steps; way = step-more (board_steps net) p.rounds p.done h come.way n less room m (omega (arith, left-more m, k)); left = left-more })
 
     -- the step that ends it
-    pub come-round : all_of (set p.left n x) ≡ 0 → HasCome net (h ++ n ∷ []) (record p { done = p.done + 1; left = p.steps })
-    come-round none =
+    pub come-round : (left : List ℕ) → left ≡ p.steps → all_of (set p.left n x) ≡ 0 → HasCome net (h ++ n ∷ []) (record p { done = p.done + 1; left = left })
+    come-round left is none =
         let e : suc p.done ≡ p.done + 1 = omega arith in
-        subst (λ d. HasCome net (h ++ n ∷ []) (record p { done = d; left = p.steps })) e
+        subst (λ l. HasCome net (h ++ n ∷ []) (record p { done = p.done + 1; left = l })) (sym is)
+        (subst (λ d. HasCome net (h ++ n ∷ []) (record p { done = d; left = p.steps })) e
         (record {
           rounds = come.rounds;
           steps = come.steps;
           way = round-more (board_steps net) p.rounds p.done h come.way n less room (λ m. let k = none-left (set p.left n x) none m in omega (arith, left-more m));
           left = λ m. (let z : 0 + get_or p.steps m 0 ≡ length (board_steps net m) = omega (arith, come.steps m) in z);
-        })
+        }))
 
   -- all rounds are done
   pub come-over : p.done ≡ p.rounds → IsLawful net h
@@ -151,6 +148,10 @@ module _ (net : Net) (h : List ℕ) (p : Course) (come : HasCome net h p) where
 -- a list cut at a place
 pub cut-here : (xs : List ℕ) (i : ℕ) → i < length xs → xs ≡ take i xs ++ get_or xs i 0 ∷ drop (i + 1) xs
 cut-here xs i inside = sym (take-append-drop (i + 1) xs) ∙ ap (λ l. l ++ drop (i + 1) xs) (take_more xs i 0 inside) ∙ append_assoc (take i xs) (get_or xs i 0 ∷ []) (drop (i + 1) xs)
+
+-- a node that has a count has a place
+pub counted : (counts : List ℕ) (n : ℕ) → 0 < get_or counts n 0 → n < length counts
+counted counts n some = elim (cases_lt n (length counts)) [ inl inside ↦ inside | inr past ↦ (let none = get_or_past counts n 0 past in absurd (omega arith)) ]
 
 -- an answer that a test of two numbers gives
 pub tells : (a b : ℕ) (P : Type 0) → (P → a ≡ b) → (a ≡ b → P) → (IsTrue (eqb a b) → P) × (P → IsTrue (eqb a b))

@@ -12,6 +12,7 @@ pub mod Ordered
 pub mod Places
 pub mod Players
 pub mod Prefixes
+pub mod ReadFirst
 pub mod Rounds
 pub mod Sorted
 pub mod Sorting

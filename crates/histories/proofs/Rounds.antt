@@ -1,9 +1,18 @@
 -- Rounds, one after another, and histories under way.
 use Rattle.std.proofs.Common.{◌≡◌, ℕ, zero, suc, ◌+◌, ◌*◌, ◌<◌, ◌≤◌, List, [], ◌∷◌, ◌++◌, length, refl, sym, ap, ◌∙◌, subst, inl, inr, arith, append-nil, append_assoc}
+use Rattle.std.specs.Prelude.{replicate}
+use Rattle.std.specs.List.{concat}
 use Rattle.std.proofs.lemmas.Bool.{cases_eq, cases_lt}
 use Rattle.histories.specs.declared.steps.BoardStep.{BoardStep}
 use Rattle.histories.specs.Histories.{count, IsRound, HasRounds, IsUnderWay}
 use Rattle.histories.proofs.Counts.{count-append, count-here, count-else, count-one, no-count, Goes, cuts}
+
+-- of rounds that are alike, one after a number of others
+pub rounds-cut : (block : List ℕ) (a b : ℕ) → concat (replicate (a + suc b) block) ≡ concat (replicate a block) ++ (block ++ concat (replicate b block))
+rounds-cut block zero b = ap (λ n. concat (replicate n block)) (let e : zero + suc b ≡ suc b = omega arith in e)
+rounds-cut block (suc a) b =
+    ap (λ n. concat (replicate n block)) (let e : suc a + suc b ≡ suc (a + suc b) = omega arith in e) ∙ ap (λ l. block ++ l) (rounds-cut block a b)
+    ∙ sym (append_assoc block (concat (replicate a block)) (block ++ concat (replicate b block)))
 
 module _ (steps : ℕ → List BoardStep) where
   -- each node stands in some rounds as often as it has steps in them
@@ -24,6 +33,11 @@ module _ (steps : ℕ → List BoardStep) where
   pub behind : (rounds : ℕ) (block rest : List ℕ) → IsRound steps block → HasRounds steps rounds rest → HasRounds steps (suc rounds) (block ++ rest)
   behind zero block rest round none = ([], block, ap (λ l. block ++ l) none ∙ append-nil block, round, refl)
   behind (suc rounds) block rest round (early, last, e, is, before) = (block ++ early, last, ap (λ l. block ++ l) e ∙ sym (append_assoc block early last), is, behind rounds block early round before)
+
+  -- one round again and again
+  pub again : (block : List ℕ) → IsRound steps block → (rounds : ℕ) → HasRounds steps rounds (concat (replicate rounds block))
+  again block round zero = refl
+  again block round (suc rounds) = behind rounds block (concat (replicate rounds block)) round (again block round rounds)
 
   -- of two rounds that begin one history, the rest is the same
   same-rest : (b x c y : List ℕ) → IsRound steps b → IsRound steps c → b ++ x ≡ c ++ y → x ≡ y

@@ -1,9 +1,11 @@
 -- The board steps of the nodes of a network.
-use Rattle.std.proofs.Common.{◌≡◌, ℕ, ◌+◌, ◌<◌, ◌≤◌, List, [], ◌∷◌, ◌++◌, Option, Some, None, false, suc, cond, ne_eqb, length, map, filter, is_some, All, refl, ap, subst, ◌∙◌, arith, length-append}
-use Rattle.std.proofs.lemmas.List.{length-map}
+use Rattle.std.proofs.Common.{◌≡◌, ℕ, ◌+◌, ◌-◌, ◌<◌, ◌≤◌, Bool, true, List, [], ◌∷◌, ◌++◌, Option, Some, None, false, suc, cond, ne_eqb, length, map, filter, get_or, is_some, All, refl, sym, ap, subst, ◌∙◌, inl, inr, arith, length-append}
+use Rattle.std.proofs.lemmas.Bool.{cases_lt}
+use Rattle.std.proofs.lemmas.List.{get_or_append_left, get_or-append_right, get_or-map, length-map}
 use Rattle.std.specs.Prelude.{IfSome}
 use Rattle.std.specs.List.Sorted.{IsStrictlyIncreasing}
 use Rattle.board_model.proofs.ForBoards.{rising-few}
+use Rattle.net_parts.specs.Limits.{most_links}
 use Rattle.net_parts.specs.Numbers.{Net}
 use Rattle.net_parts.specs.Outline.{link_at}
 use Rattle.net_parts.specs.declared.roads.Link.{Link}
@@ -17,15 +19,48 @@ use Rattle.histories.specs.Sides.{has_node, step_across}
 use Rattle.histories.specs.Steps.{board_steps}
 
 -- rising numbers of links are few
-pub links-few : (net : Net) (links : List ℕ) → IsNetwork net → IsStrictlyIncreasing links → All (λ l. l < length net.links) links → length links ≤ 320
+pub links-few : (net : Net) (links : List ℕ) → IsNetwork net → IsStrictlyIncreasing links → All (λ l. l < length net.links) links → length links ≤ most_links
 links-few net links network rising exist = let few = network.outline.link_count.1 in omega (arith, rising-few links (length net.links) rising exist, network.outline.road_count)
 
--- a node has as many steps as it hears and tells on links, at most 320
+-- a node has as many steps as it hears and tells on links, and few
 pub step-count : (net : Net) (node : ℕ) → length (board_steps net node) ≡ length (heard_links net node) + length (told_links net node)
 step-count net node = length-append (map Read (heard_links net node)) (map Publish (told_links net node)) ∙ ap (λ n. n + length (map Publish (told_links net node))) (length-map (heard_links net node) Read) ∙ ap (λ n. length (heard_links net node) + n) (length-map (told_links net node) Publish)
 
-pub steps-few : (net : Net) (node : ℕ) → IsNetwork net → AreApart net node → length (board_steps net node) ≤ 320
+pub steps-few : (net : Net) (node : ℕ) → IsNetwork net → AreApart net node → length (board_steps net node) ≤ most_links
 steps-few net node network apart = let few = network.outline.link_count.1 in omega (arith, step-count net node, apart.few)
+
+-- the steps of a node that are Reads come first
+pub read-step : (net : Net) (n k : ℕ) → k < length (heard_links net n) → get_or (board_steps net n) k (Read 0) ≡ Read (get_or (heard_links net n) k 0)
+read-step net n k inside =
+    get_or_append_left (map Read (heard_links net n)) (map Publish (told_links net n)) (Read 0) k (omega (arith, length-map (heard_links net n) Read))
+    ∙ get_or-map Read (heard_links net n) k 0 (Read 0) inside
+
+link_of : BoardStep → ℕ
+link_of (Read l) = l
+link_of (Publish l) = l
+
+is_read : BoardStep → Bool
+is_read (Read l) = true
+is_read (Publish l) = false
+
+pub read-first : (net : Net) (n k l : ℕ) → k < length (board_steps net n) → get_or (board_steps net n) k (Read 0) ≡ Read l → (k < length (heard_links net n)) × (get_or (heard_links net n) k 0 ≡ l)
+unfolding link_of is_read
+read-first net n k l inside is = elim (cases_lt k (length (heard_links net n))) [
+  | inl first ↦ (first, ap link_of (sym (read-step net n k first) ∙ is))
+  | inr past ↦ absurd (
+      let reads : length (map Read (heard_links net n)) ≡ length (heard_links net n) = length-map (heard_links net n) Read in
+      let j : ℕ = k - length (map Read (heard_links net n)) in
+      let long = length-append (map Read (heard_links net n)) (map Publish (told_links net n)) in
+      let told : length (map Publish (told_links net n)) ≡ length (told_links net n) = length-map (told_links net n) Publish in
+      let e : Publish (get_or (told_links net n) j 0) ≡ Read l =
+      sym (get_or-append_right (map Read (heard_links net n)) (map Publish (told_links net n)) (length (map Read (heard_links net n))) k (Read 0) refl (omega arith)
+      ∙ get_or-map Publish (told_links net n) j 0 (Read 0) (omega arith))
+      ∙ is in
+      never (ap is_read e))
+]
+  where
+    never : false ≡ true → ⊥
+    never e = cc
 
 -- the counts of the two sides
 pub count-both : (net : Net) (node heard told : ℕ) (entry exit : List ℕ) → entry ≡ entry_links net node → exit ≡ exit_links net node → heard ≡ length (filter (λ l. is_some (link_at net l).from) entry) → told ≡ length (filter (λ l. is_some (link_at net l).to) exit) → heard + told ≡ length (board_steps net node)

@@ -57,6 +57,14 @@ version-rises steps h link early late order =
 plus-none : (k : ℕ) → k + 0 ≡ k
 plus-none k = omega arith
 
+-- where no number passes, none is counted
+none-pass : (p : ℕ → Bool) (s n : ℕ) → ((k : ℕ) → k < n → p (s + k) ≡ false) → passing p s n ≡ 0
+none-pass p s zero none = passing-none p s
+none-pass p s (suc n) none =
+    let whole = passing-append p s n 1 in
+    let last : passing p (s + n) 1 ≡ 0 = passing-one p (s + n) ∙ ap (λ b. cond b 1 0) (none n (omega arith)) in
+    omega (arith, ap (passing p s) (let e : suc n ≡ n + 1 = omega arith in e), whole, none-pass p s n (λ k less. none k (omega arith)), last)
+
 -- of a list and its places as many pass
 passing-list : (p : BoardStep → Bool) (f : ℕ → Bool) (xs : List BoardStep) (s : ℕ) → ((before : List BoardStep) (x : BoardStep) (after : List BoardStep) → xs ≡ before ++ x ∷ after → f (s + length before) ≡ p x) → passing f s (length xs) ≡ count_by p xs
 unfolding passing
@@ -136,6 +144,18 @@ module _ (steps : ℕ → List BoardStep) (link f : ℕ) (others : (n : ℕ) →
         where
           suc-mul : (r w : ℕ) → suc r * w ≡ r * w + w
           suc-mul r w = omega arith
+
+  -- and before the first step of a round that is one of these, it is the round's number
+  pub made-before : (k : ℕ) → k ≤ length (steps f) → ((j : ℕ) → j < k → is_publish_of link (get_or (steps f) j (Read 0)) ≡ false) → (r c : ℕ) → r * length (steps f) ≤ c → c ≤ r * length (steps f) + k → made c ≡ r
+  made-before k inside none r c least most =
+      let w : ℕ = length (steps f) in
+      let more : ℕ = c - r * w in
+      let e : c ≡ r * w + more = omega arith in
+      let whole : made (r * w + more) ≡ made (r * w) + passing test (0 + r * w) more = passing-append test 0 (r * w) more in
+      let quiet : passing test (0 + r * w) more ≡ 0 = none-pass test (0 + r * w) more (λ j less.
+      ap (λ i. is_publish_of link (get_or (steps f) (i % length (steps f)) (Read 0))) (let s : 0 + r * w + j ≡ r * w + j = omega arith in s)
+      ∙ ap (λ i. is_publish_of link (get_or (steps f) i (Read 0))) (mod-mul-add r w j (omega arith)) ∙ none j (omega arith)) in
+      omega (arith, ap made e, whole, quiet, made-round r)
 
   -- the version at a place: what its publisher has made by then
   pub version-is : (h : List ℕ) (i : ℕ) → i ≤ length h → version_at steps h link i ≡ made (count f (take i h))

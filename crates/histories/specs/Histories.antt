@@ -4,7 +4,7 @@ use Rattle.std.specs.List.{concat, flat_map, range_with_len}
 use Rattle.net_parts.specs.Numbers.{Net}
 use Rattle.histories.specs.declared.steps.BoardStep.{BoardStep}
 use Rattle.histories.specs.declared.steps.BoardStep.TheVariants.{Read}
-use Rattle.histories.specs.Steps.{board_steps, is_publish_of}
+use Rattle.histories.specs.Steps.{board_steps, is_publish_of, publishings, readings}
 
 -- how often a node stands in a history
 abbrev pub count : ℕ → List ℕ → ℕ
@@ -69,6 +69,10 @@ module _ (steps : ℕ → List BoardStep) where
   abbrev pub IsOfRound : List ℕ → ℕ → ℕ → Type 0
   IsOfRound history link place = (round_at history place ≤ version_at history link place) × (version_at history link place ≤ round_at history place + 1)
 
+  -- wherever a node reads a link, its version is the round of the place: what was told in the round before, and nothing of this one
+  abbrev pub ReadsRoundBefore : List ℕ → Type 0
+  ReadsRoundBefore history = (place link : ℕ) → place < length history → step_at history place ≡ Read link → version_at history link place ≡ round_at history place
+
 -- a history is lawful for a network where it has the network's rounds
 abbrev pub IsLawful : Net → List ℕ → Type 0
 IsLawful net history = HasRounds (board_steps net) net.run.rounds history
@@ -76,3 +80,7 @@ IsLawful net history = HasRounds (board_steps net) net.run.rounds history
 -- the turn order: in each round the nodes do all their steps in number order
 abbrev pub turn_order : Net → List ℕ
 turn_order net = concat (replicate net.run.rounds (turns (board_steps net) (length net.node_names)))
+
+-- the read-first order: in each round all nodes do their Reads, in number order, and then all do their Publishes
+abbrev pub read_first : Net → List ℕ
+read_first net = concat (replicate net.run.rounds (turns (readings net) (length net.node_names) ++ turns (publishings net) (length net.node_names)))

@@ -7,10 +7,17 @@ use Rattle.road_net.specs.Network.{heard_links, told_links}
 use Rattle.histories.specs.declared.steps.BoardStep.{BoardStep}
 use Rattle.histories.specs.declared.steps.BoardStep.TheVariants.{Read, Publish}
 
--- the board steps of a node in a round: a Read of each link on which it hears another node, and then a Publish on each link
--- on which it tells one, each in the order of the links
+-- the Reads of a node in a round: of each link on which it hears another node, in the order of the links
+abbrev pub readings : Net → ℕ → List BoardStep
+readings net node = map Read (heard_links net node)
+
+-- the Publishes of a node in a round: on each link on which it tells another node, in the order of the links
+abbrev pub publishings : Net → ℕ → List BoardStep
+publishings net node = map Publish (told_links net node)
+
+-- the board steps of a node in a round: its Reads, and then its Publishes
 abbrev pub board_steps : Net → ℕ → List BoardStep
-board_steps net node = map Read (heard_links net node) ++ map Publish (told_links net node)
+board_steps net node = readings net node ++ publishings net node
 
 -- whether a board step is a publishing on the link with this number
 abbrev pub is_publish_of : ℕ → BoardStep → Bool

@@ -2,7 +2,16 @@
 ghost use Rattle.std.specs.Prelude.{◌≡◌, ◌≤◌, ◌<◌, ◌↔◌, ◌++◌, ℕ, List, IfOk, IsSome, IsTrue, OnOk, [], length, replicate, take};
 ghost use Rattle.histories.specs.Steps.{board_steps};
 ghost use Rattle.histories.specs.Histories as histories;
-ghost use Rattle.histories.specs.Histories.{turns, version_at, CanGoOn, IsLawful, IsOfRound, IsUnderWay};
+ghost use Rattle.histories.specs.Histories.{
+  read_first,
+  turns,
+  version_at,
+  CanGoOn,
+  IsLawful,
+  IsOfRound,
+  IsUnderWay,
+  ReadsRoundBefore,
+};
 ghost use Rattle.net_parts.specs.Outline.{link_at};
 
 use crate::progress::Progress;
@@ -53,26 +62,26 @@ impl History {
 }
 
 /// Whether a history is lawful for a network: its rounds follow one another, as many as the network has, and each has
-/// each node as often as it has board steps. It takes no memory.
+/// each node as often as it has board steps. `Err`: out of memory.
 ///
 /// docs/RULES.md, "Histories".
-pub fn lawful(net: &Network, h: &History) -> bool
-    ensures { IsTrue result ↔ IsLawful net.now h.now }
+pub fn lawful(alloc: Global, net: &Network, h: &History) -> Result<bool, AllocError>
+    ensures { IfOk result (λ is. IsTrue is ↔ IsLawful net.now h.now) }
 {
-    are_lawful(net, h.steps())
+    are_lawful(alloc, net, h.steps())
 }
 
-/// Whether these nodes are a lawful history of a network.
-fn are_lawful(net: &Network, nodes: &[u32]) -> bool
-    ensures { IsTrue result ↔ IsLawful net.now nodes.now }
+/// Whether these nodes are a lawful history of a network. `Err`: out of memory.
+fn are_lawful(alloc: Global, net: &Network, nodes: &[u32]) -> Result<bool, AllocError>
+    ensures { IfOk result (λ is. IsTrue is ↔ IsLawful net.now nodes.now) }
 {
-    let mut progress = Progress::new(net);
+    let mut progress = Progress::new(alloc, net)?;
     for node in nodes {
         if progress.take(*node).is_err() {
-            return false;
+            return Ok(false);
         }
     }
-    progress.is_over()
+    Ok(progress.is_over())
 }
 
 /// The turn order: round by round, the nodes do all their board steps in number order. It is lawful. `Err`: out of memory.
@@ -137,6 +146,17 @@ pub fn law_of_versions(net: &Network)
     ensures round { (h : List ℕ) (link place : ℕ) → IsLawful net.now h → place < length h
         → IsSome (link_at net.now link).from → IsSome (link_at net.now link).to
         → IsOfRound (board_steps net.now) h link place }
+{
+    law_of_network(net);
+}
+
+/// Of the read-first order: it is lawful, and wherever a node reads a link, the version of the link is the round of the place, so
+/// what is told in a round is read in the next one.
+///
+/// docs/RULES.md, "Histories".
+pub fn law_of_reading_first(net: &Network)
+    ensures lawful { IsLawful net.now (read_first net.now) }
+    ensures before { ReadsRoundBefore (board_steps net.now) (read_first net.now) }
 {
     law_of_network(net);
 }

@@ -9,7 +9,9 @@ mod progress;
 mod steps;
 
 pub use call_laws::law_of_merged_calls;
-pub use history::{History, law_of_histories, law_of_versions, lawful, turn_order};
+pub use history::{
+    History, law_of_histories, law_of_reading_first, law_of_versions, lawful, turn_order,
+};
 pub use merging::merge;
 pub use progress::{Progress, Stop};
 pub use steps::{BoardStep, law_of_steps, node_steps, step_count};

@@ -21,7 +21,7 @@ pub enum BoardStep {
 
 impl CrossesThreads for BoardStep {}
 
-/// How many board steps a node has in a round, at most 320. It takes no memory.
+/// How many board steps a node has in a round, at most as many as a network may have links. It takes no memory.
 ///
 /// docs/RULES.md, "Rounds".
 pub fn step_count(net: &Network, node: u32) -> u32
@@ -33,7 +33,7 @@ pub fn step_count(net: &Network, node: u32) -> u32
         + joined_count(net, Side::End, net.exit_links(node))
 }
 
-/// The board steps of a node in a round, in their order, at most 320. `Err`: out of memory.
+/// The board steps of a node in a round, in their order, at most as many as a network may have links. `Err`: out of memory.
 ///
 /// docs/RULES.md, "Rounds".
 pub fn node_steps(alloc: Global, net: &Network, node: u32) -> Result<Vec<BoardStep>, AllocError>
@@ -109,8 +109,9 @@ fn push_steps(
     Ok(())
 }
 
-/// What is true of the board steps of every network: there are none past the last node, a node has at most 320 in a round,
-/// and on a link between two nodes the one at its begin publishes, and the one at its end reads, each once in a round.
+/// What is true of the board steps of every network: there are none past the last node, a node has at most as many in a round
+/// as a network may have links, and on a link between two nodes the one at its begin publishes, and the one at its end reads,
+/// each once in a round.
 ///
 /// docs/RULES.md, "Rounds".
 pub fn law_of_steps(net: &Network)

@@ -38,7 +38,7 @@ tells-ends net n l h = (let (a, b) = and_parts (is_node n (link_at net l).from) 
 begins-by : (n : ℕ) (o : Option ℕ) → o ≡ Some n → is_node n o ≡ true
 begins-by n o e = ap (is_node n) e ∙ eq-eqb n n refl
 
-tells-by : (net : Net) (n l : ℕ) → (link_at net l).from ≡ Some n → is_some (link_at net l).to ≡ true → tells net n l ≡ true
+pub tells-by : (net : Net) (n l : ℕ) → (link_at net l).from ≡ Some n → is_some (link_at net l).to ≡ true → tells net n l ≡ true
 tells-by net n l from to = and_from (is_node n (link_at net l).from) (is_some (link_at net l).to) (begins-by n (link_at net l).from from) to
 
 -- what passes a test is kept

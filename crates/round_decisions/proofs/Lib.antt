@@ -1,5 +1,6 @@
 pub mod Boards
 pub mod ChainLaws
+pub mod CommitLaws
 pub mod DecisionTextLaws
 pub mod HearLaws
 pub mod KeptLaws
@@ -10,8 +11,11 @@ pub mod MovedPlatoons
 pub mod MovedServings
 pub mod OfRunLaws
 pub mod OriginLaws
+pub mod OwnRuns
+pub mod OwnTurnLaws
 pub mod PlayLaws
 pub mod RoundLaws
+pub mod RunChains
 pub mod SoonLaws
 pub mod TellLaws
 pub mod TurnPlaces

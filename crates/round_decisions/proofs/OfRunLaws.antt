@@ -2,45 +2,43 @@
 use Rattle.std.proofs.Common.{◌≡◌, ℕ, zero, suc, ◌+◌, ◌*◌, ◌<◌, ◌≤◌, true, false, List, [], ◌∷◌, Option, Some, IfSome, length, get_or, is_some, take, refl, sym, ap, subst, ◌∙◌, inl, inr, arith}
 use Rattle.std.specs.Prelude.{◌&&◌, IsSome, if◌then◌else◌, nat_lt, unwrap_or}
 use Rattle.std.proofs.lemmas.Bool.{and_from, and_left, cases_lt, le-ltb, lt-ltb}
-use Rattle.std.proofs.lemmas.List.{ext_get_or, get_or-map, get_or_past, length-map, take_more}
+use Rattle.std.proofs.lemmas.List.{get_or_past, take_more}
 use Rattle.std.proofs.lemmas.List.Elements.{All-get_or}
 use Rattle.std.proofs.lemmas.List.FromFn.{get_or-map-range_with_len}
 use Rattle.std.proofs.lemmas.Option.{none-some}
 use Rattle.board_model.specs.declared.boards.Heard.{Heard}
-use Rattle.control_flow.specs.declared.greens.Green.{Green}
 use Rattle.histories.specs.Histories.{IsLawful, count, turn_order, version_at}
 use Rattle.histories.specs.Steps.{board_steps, publisher}
-use Rattle.histories.proofs.Counts.{count-append, count-one}
+use Rattle.histories.proofs.Counts.{count-append, count-grows, count-one}
 use Rattle.histories.proofs.StepLaws.{steps-beyond}
 use Rattle.histories.proofs.TurnOrder.{turns-rounds}
 use Rattle.histories.proofs.Versions.{made-within, version-is, version-law}
-use Rattle.intersection_actor.specs.Commits.{Commitment, IsCommit, record_of}
+use Rattle.intersection_actor.specs.Commits.{Commitment, record_of}
 use Rattle.net_parts.specs.Numbers.{Net, no_link}
 use Rattle.net_parts.specs.Outline.{IsLink, link_at}
 use Rattle.net_parts.specs.declared.roads.Link.{Link}
 use Rattle.road_net.specs.Network.{IsNetwork, heard_links}
-use Rattle.road_net.specs.declared.senses.Sensed.{Sensed}
 use Rattle.round_states.specs.declared.states.LinkBoard.{LinkBoard}
 use Rattle.round_states.specs.declared.states.RoundState.{RoundState}
-use Rattle.runs.proofs.Committed.{one-commit}
-use Rattle.runs.proofs.Heard.{Ends, heard-at, heard-count, heard-ends}
-use Rattle.runs.proofs.Places.{StandsAt, first-small, once, others, place-of, published}
+use Rattle.runs.proofs.Heard.{Ends, heard-ends}
+use Rattle.runs.proofs.Places.{StandsAt, once, others, published}
 use Rattle.runs.proofs.SameParts.{map-range-same}
-use Rattle.runs.specs.Runs.{forecast_at, hearing, line_before, sensed_in, told_in}
+use Rattle.runs.specs.Runs.{forecast_at, hearing, told_in}
 use Rattle.runs.specs.declared.records.RunRecord.{RunRecord}
 use Rattle.round_decisions.specs.Decisions.{IsDecision, board_after, has_told, heard_in, is_below, line_of, plan_in, sensed_of}
-use Rattle.round_decisions.specs.OfRuns.{IsRoundIn, IsStateIn, IsTurnRun}
+use Rattle.round_decisions.specs.OfRuns.{IsRoundIn, IsStateIn, IsTurnRun, board_in}
 use Rattle.round_decisions.specs.Turns.{board_of, heard_on, hearing_on, next_board, no_board}
 use Rattle.round_decisions.specs.declared.decisions.Decision.{Decision}
+use Rattle.round_decisions.proofs.CommitLaws.{heard-as, same-commit}
 use Rattle.round_decisions.proofs.RoundLaws.{after-same}
-use Rattle.round_decisions.proofs.TurnPlaces.{count-grows, greater-none, lesser-all}
+use Rattle.round_decisions.proofs.TurnPlaces.{greater-none, lesser-all}
 
 -- the turn order is lawful
 order-lawful : (net : Net) → IsNetwork net → IsLawful net (turn_order net)
 order-lawful net network = turns-rounds (board_steps net) (length net.node_names) (λ q past. steps-beyond net network q past) net.run.rounds
 
 -- a link that comes from a node, and the node, are there
-link-there : (net : Net) → IsNetwork net → (link from : ℕ) → (link_at net link).from ≡ Some from → (link < length net.link_names) × (from < length net.node_names)
+pub link-there : (net : Net) → IsNetwork net → (link from : ℕ) → (link_at net link).from ≡ Some from → (link < length net.link_names) × (from < length net.node_names)
 link-there net network link from comes = elim (cases_lt link (length net.links)) [
   | inl inside ↦
       let is : IsLink (length net.node_names) (link_at net link) = All-get_or (IsLink (length net.node_names)) net.links link no_link inside network.outline.links in
@@ -125,16 +123,8 @@ module _ (net : Net) (network : IsNetwork net) (arriving : ℕ → ℕ → ℕ) 
   ]
 
   heard-is : (n : ℕ) → n < length net.node_names → heard state.round n ≡ heard_in net state (made state.round) n
-  heard-is n below =
-      let none : Heard = hearing net made 0 0 in
-      let boards : ℕ → LinkBoard = board_after net state (made state.round) n in
-      let long : length (heard state.round n) ≡ length (heard_links net n) = heard-count net arriving (turn_order net) heard made net.run.rounds is.by.commits is.along state.round n at.round below in
-      ext_get_or none (heard state.round n) (heard_in net state (made state.round) n) (long ∙ sym (length-map (heard_links net n) (hearing_on (board_after net state (made state.round) n)))) (λ q inside.
-      let first : q < length (heard_links net n) = omega (arith, long) in
-      let (place, stands) = place-of net network (turn_order net) (order-lawful net network) state.round n q at.round (first-small net n q first) in
-      heard-at net arriving (turn_order net) heard made net.run.rounds is.by.commits is.along state.round n q place at.round below first stands none
-      ∙ board-at n q place below first stands (get_or (heard_links net n) q 0) (heard-ends net n q network first)
-      ∙ sym (get_or-map (hearing_on (board_after net state (made state.round) n)) (heard_links net n) q 0 none first))
+  heard-is n below = heard-as net network arriving (turn_order net) (order-lawful net network) heard made is.by.commits is.along state.round n at.round below (hearing_on (board_after net state (made state.round) n))
+      (λ q place first stands. board-at n q place below first stands (get_or (heard_links net n) q 0) (heard-ends net n q network first))
 
   module _ (d : Decision) (decision : IsDecision net state d) where
     -- what is heard rests on the commits of the nodes before
@@ -142,12 +132,8 @@ module _ (net : Net) (network : IsNetwork net) (arriving : ℕ → ℕ → ℕ) 
     heard-by n same = ap (λ (boards : ℕ → LinkBoard). heard_on net boards n) (λ i link. after-same net state decision.made (made state.round) n same link i)
 
     commit-same : (n : ℕ) → n < length net.node_names → ((k : ℕ) → k < n → decision.made k ≡ made state.round k) → decision.made n ≡ made state.round n
-    commit-same n below same =
-        one-commit net n state.round (line_before net made state.round n) (sensed_in net arriving made state.round n) (heard state.round n) (decision.made n) (made state.round n)
-        (subst (λ (l : List Green). IsCommit net n state.round l (sensed_in net arriving made state.round n) (heard state.round n) (decision.made n)) (at.lines n below)
-        (subst (λ (s : Sensed). IsCommit net n state.round (line_of state n) s (heard state.round n) (decision.made n)) (at.sensed n below)
-        (subst (λ (x : List Heard). IsCommit net n state.round (line_of state n) (sensed_of state n) x (decision.made n)) (heard-by n same ∙ sym (heard-is n below)) (decision.commits n below))))
-        (is.by.commits state.round n at.round below).commit
+    commit-same n below same = same-commit net arriving heard made net.run.rounds is.by.commits state.round n at.round below (line_of state n) (sensed_of state n) (heard_in net state decision.made n) (at.lines n below) (at.sensed n below)
+        (heard-by n same ∙ sym (heard-is n below)) (decision.made n) (decision.commits n below)
 
     all-same : (m : ℕ) → m ≤ length net.node_names → (k : ℕ) → k < m → decision.made k ≡ made state.round k
     all-same zero most k less = absurd (omega arith)
@@ -157,7 +143,7 @@ module _ (net : Net) (network : IsNetwork net) (arriving : ℕ → ℕ → ℕ) 
     ]
 
     -- each board on which a node tells another one
-    board-in : (link from to : ℕ) → (link_at net link).from ≡ Some from → (link_at net link).to ≡ Some to → board_of d.boards link ≡ record { version = state.round + 1; forecast = forecast_at net made link (state.round + 1) }
+    board-in : (link from to : ℕ) → (link_at net link).from ≡ Some from → (link_at net link).to ≡ Some to → board_of d.boards link ≡ board_in net made link (state.round + 1)
     board-in link from to comes goes =
         let (exists, below) = link-there net network link from comes in
         let told : has_told net (length net.node_names) link ≡ true =

@@ -14,9 +14,10 @@ use Rattle.control_flow.specs.declared.greens.Green.{Green}
 use Rattle.histories.specs.Steps.{publisher}
 use Rattle.intersection_actor.specs.Commits.{Commitment, IsCommit, record_of}
 use Rattle.intersection_actor.specs.declared.records.PlanRecord.{PlanRecord}
+use Rattle.net_parts.proofs.OutlineLaws.{known-most}
 use Rattle.net_parts.specs.Limits.{most_seconds}
 use Rattle.net_parts.specs.Numbers.{Net}
-use Rattle.net_parts.specs.Outline.{link_at}
+use Rattle.net_parts.specs.Outline.{known_seconds, link_at}
 use Rattle.road_net.specs.Joins.{is_node}
 use Rattle.road_net.specs.Network.{IsNetwork, heard_links}
 use Rattle.road_net.specs.declared.senses.Sensed.{Sensed}
@@ -67,9 +68,9 @@ same-by (Some k) t nodes old f g same = elim (cases_lt k nodes) [
       ap (λ b. if b && t then next_board old (f k) else old) e ∙ sym (ap (λ b. if b && t then next_board old (g k) else old) e)
 ]
 
--- as many rounds as there are begin before a second
-few-rounds : (net : Net) → IsNetwork net → (round : ℕ) → begin_of net round < most_seconds → round < 18000
-few-rounds net network round early = (let most = mul-le round 1 round net.run.step (omega arith) network.outline.run.step.0 in omega (arith, most, early))
+-- a round that begins in a second that files may name is of no greater number than a day has seconds
+few-rounds : (net : Net) → IsNetwork net → (round : ℕ) → begin_of net round < known_seconds net → round < most_seconds
+few-rounds net network round early = (let most = mul-le round 1 round net.run.step (omega arith) network.outline.run.step.0 in omega (arith, most, early, known-most net network.outline))
 
 module _ (net : Net) (state : RoundState) where
   abbrev told_by : (ℕ → Commitment) → ℕ → ℕ → List Row
@@ -92,7 +93,7 @@ module _ (net : Net) (state : RoundState) where
       ap (λ b. if b then next_board (board_of state.boards link) (told_in net state.round link (made (publisher net link))) else board_of state.boards link) e
 
 -- what is heard on boards that are the same where it is heard
-map-all-same : {X : Type 0} (f g : ℕ → X) (P : ℕ → Type 0) (xs : List ℕ) → All P xs → ((x : ℕ) → P x → f x ≡ g x) → map f xs ≡ map g xs
+pub map-all-same : {X : Type 0} (f g : ℕ → X) (P : ℕ → Type 0) (xs : List ℕ) → All P xs → ((x : ℕ) → P x → f x ≡ g x) → map f xs ≡ map g xs
 map-all-same f g P [] all same = refl
 map-all-same f g P (x ∷ xs) all same = ap (λ y. y ∷ map f xs) (same x (all 0 x (omega arith))) ∙ ap (λ l. g x ∷ l) (map-all-same f g P xs (λ k d inside. all (suc k) d (omega arith)) same)
 

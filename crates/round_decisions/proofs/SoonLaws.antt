@@ -19,6 +19,7 @@ use Rattle.intersection_actor.specs.Steps.{ArriveBy}
 use Rattle.intersection_actor.proofs.ArrivalLaws.{window-soon}
 use Rattle.intersection_actor.proofs.RecallLaws.{head-round, lawful-round, length-round, plan-round}
 use Rattle.intersection_actor.proofs.ServedLaws.{schedule-made}
+use Rattle.net_parts.specs.Limits.{most_seconds}
 use Rattle.net_parts.specs.Numbers.{Net}
 use Rattle.net_parts.specs.Outline.{plan_at}
 use Rattle.phase_plan.specs.Phases.{IsRing}
@@ -81,7 +82,7 @@ since-by plan rows now head most begins e = by (row_after rows now) refl e
         omega (arith, from.0, head_in-since plan now here, ap (λ (x : Head). x.since) same)
 
 module _ (net : Net) (network : IsNetwork net) (node : ℕ) (below : node < length net.node_names) (round : ℕ) (old : List Green) (sensed : Sensed) (heard : List Heard) (c : Commitment)
-    (early : sensed.now ≤ 18000) (line : IsLine (plan_at net node) old) (is : IsCommit net node round old sensed heard c) where
+    (early : sensed.now ≤ most_seconds) (line : IsLine (plan_at net node) old) (is : IsCommit net node round old sensed heard c) where
   plan : IsRing (plan_at net node)
   plan = plan-is net network node below
 

@@ -6,6 +6,7 @@ use Rattle.std.proofs.lemmas.List.{get_or_default}
 use Rattle.intersection_actor.specs.Acting.{Acting, telling, tells_from, wanting}
 use Rattle.intersection_actor.specs.declared.records.Want.{Want}
 use Rattle.intersection_actor.specs.declared.records.Want.TheVariants.{Read, Commit, Publish, Done}
+use Rattle.net_parts.specs.Limits.{most_seconds}
 use Rattle.net_parts.specs.Numbers.{Net}
 use Rattle.road_net.specs.Network.{IsNetwork, told_links}
 use Rattle.round_states.specs.declared.states.LinkBoard.{LinkBoard}
@@ -76,10 +77,10 @@ module _ (net : Net) (network : IsNetwork net) (a b : Acting) (old new : List Li
     untold : board_of new link ≡ board_of old link
     untold = told.each link inside ∙ ap (λ t. if t then next_board (board_of old link) (outgoing net a link) else board_of old link) (test-not-yet (tells net a.node link) told.first link next.reaches)
 
-    pub is-below : MayTell net a.node old → (board : LinkBoard) → board ≡ get_or new link board → board.version < 20000
+    pub is-below : MayTell net a.node old → (board : LinkBoard) → board ≡ get_or new link board → board.version ≤ most_seconds
     is-below may board is =
         let e : board ≡ board_of old link = is ∙ get_or_default new link board no_board link-there ∙ untold in
-        let less : (board_of old link).version < 20000 = may link inside next.is in
+        let less : (board_of old link).version ≤ most_seconds = may link inside next.is in
         omega (arith, ap (λ (x : LinkBoard). x.version) e, less)
 
     pub told-more : (c : Acting) (board newer : LinkBoard) → board ≡ get_or new link board → c ≡ wanting (tells_from net b.node (link + 1)) b → newer ≡ next_board board (outgoing net b link) → HasTold net a c old (set new link newer)

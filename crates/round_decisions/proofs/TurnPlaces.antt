@@ -1,24 +1,19 @@
 -- The places of the turn order: when a node reads in a round, the nodes with lesser numbers have done their steps of the round,
 -- and those with greater numbers have not begun.
-use Rattle.std.proofs.Common.{◌≡◌, ℕ, zero, suc, ◌+◌, ◌-◌, ◌*◌, ◌<◌, ◌≤◌, List, [], ◌∷◌, ◌++◌, drop, length, get_or, take, refl, sym, ap, ◌∙◌, inl, inr, arith, append_assoc}
+use Rattle.std.proofs.Common.{◌≡◌, ℕ, zero, suc, ◌+◌, ◌-◌, ◌*◌, ◌<◌, ◌≤◌, List, [], ◌∷◌, ◌++◌, length, get_or, take, refl, sym, ap, ◌∙◌, inl, inr, arith, append_assoc}
 use Rattle.std.specs.Prelude.{replicate}
 use Rattle.std.specs.List.{concat}
 use Rattle.std.proofs.lemmas.Bool.{cases_lt}
-use Rattle.std.proofs.lemmas.List.{take-append-drop, take-take, take_at, take_more}
+use Rattle.std.proofs.lemmas.List.{take_at, take_more}
 use Rattle.histories.specs.Histories.{count, turn_order, turns}
 use Rattle.histories.specs.Steps.{board_steps}
-use Rattle.histories.proofs.Counts.{count-append, count-else, count-here, count-one, in-spread, past-spread, spread}
-use Rattle.histories.proofs.Rounds.{rounds-count}
+use Rattle.histories.proofs.Counts.{comes-first, count-append, count-else, count-grows, count-here, count-one, in-spread, past-spread, spread}
+use Rattle.histories.proofs.Rounds.{rounds-count, rounds-cut}
 use Rattle.histories.proofs.StepLaws.{steps-beyond}
 use Rattle.histories.proofs.TurnOrder.{turns-rounds}
 use Rattle.net_parts.specs.Numbers.{Net}
 use Rattle.road_net.specs.Network.{IsNetwork}
-use Rattle.runs.proofs.Places.{StandsAt, comes-first}
-
-pub count-grows : (n i j : ℕ) (h : List ℕ) → i ≤ j → count n (take i h) ≤ count n (take j h)
-count-grows n i j h less =
-    let whole = count-append n (take i (take j h)) (drop i (take j h)) in
-    omega (arith, ap (count n) (take-append-drop i (take j h)), whole, ap (count n) (take-take i j h less))
+use Rattle.runs.proofs.Places.{StandsAt}
 
 -- A place of n among the n's that stand between a beginning and a rest: of another node as many stand before it as in the
 -- beginning.
@@ -47,12 +42,6 @@ module _ (f : ℕ → ℕ) where
       ap (spread f from) (let e : suc a + b ≡ suc (a + b) = omega arith in e) ∙ ap (λ l. replicate (f from) from ++ l) (spread-append (from + 1) a b)
       ∙ sym (append_assoc (replicate (f from) from) (spread f (from + 1) a) (spread f (from + 1 + a) b))
       ∙ ap (λ s. (replicate (f from) from ++ spread f (from + 1) a) ++ spread f s b) (let e : from + 1 + a ≡ from + suc a = omega arith in e)
-
-rounds-cut : (block : List ℕ) (a b : ℕ) → concat (replicate (a + suc b) block) ≡ concat (replicate a block) ++ (block ++ concat (replicate b block))
-rounds-cut block zero b = ap (λ n. concat (replicate n block)) (let e : zero + suc b ≡ suc b = omega arith in e)
-rounds-cut block (suc a) b =
-    ap (λ n. concat (replicate n block)) (let e : suc a + suc b ≡ suc (a + suc b) = omega arith in e) ∙ ap (λ l. block ++ l) (rounds-cut block a b)
-    ∙ sym (append_assoc block (concat (replicate a block)) (block ++ concat (replicate b block)))
 
 module _ (net : Net) (network : IsNetwork net) (r n k place : ℕ) (less : r < net.run.rounds) (below : n < length net.node_names) (at : StandsAt net (turn_order net) r n k place) where
   abbrev w : ℕ → ℕ

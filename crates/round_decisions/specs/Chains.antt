@@ -13,9 +13,10 @@ use Rattle.net_simulator.specs.Senses.{sense}
 use Rattle.net_simulator.specs.Sums.{end_of_run}
 use Rattle.round_states.specs.States.{begin_of}
 use Rattle.round_states.specs.declared.states.RoundState.{RoundState}
-use Rattle.runs.specs.Runs.{cumulative_by, forecast_at, plans_in}
+use Rattle.runs.specs.Runs.{cumulative_by, plans_in}
 use Rattle.round_decisions.specs.Decisions.{IsDecision, line_of, sensed_of}
 use Rattle.round_decisions.specs.Lines.{rows_from}
+use Rattle.round_decisions.specs.OfRuns.{board_in}
 use Rattle.round_decisions.specs.Promises.{decided_line}
 use Rattle.round_decisions.specs.Turns.{board_of, no_board}
 use Rattle.round_decisions.specs.declared.decisions.Decision.{Decision}
@@ -26,9 +27,14 @@ use Rattle.round_decisions.specs.declared.decisions.Decision.{Decision}
 abbrev pub told_line : Net → (ℕ → Decision) → ℕ → ℕ → List Green
 told_line net decisions round node = rows_from (begin_of net round) (decided_line (decisions round) node)
 
--- the sign of a node in a second: in the seconds of a round the signals show the rows that its decision tells
+-- the sign of a node in a second, where `rows round node` are those of its line that a round tells: in the seconds of a round the signals
+-- show what the round tells
+abbrev pub shown_in : Net → (ℕ → ℕ → List Green) → ℕ → ℕ → Sign
+shown_in net rows x node = sign_at (rows (x / net.run.step) node) x
+
+-- the sign of a node in a second, where the signals show the rows that the decisions tell
 abbrev pub shown_along : Net → (ℕ → Decision) → ℕ → ℕ → Sign
-shown_along net decisions x node = sign_at (told_line net decisions (x / net.run.step) node) x
+shown_along net decisions = shown_in net (told_line net decisions)
 
 -- A chain of decisions from the first round of a run on. At first the ring turns from second 0, and no board has a forecast; in each
 -- later round the lines and the boards are those that the decision before tells. What a node senses is what the world shows it
@@ -45,12 +51,12 @@ pub record IsChain (net : Net) (arriving : ℕ → ℕ → ℕ) (states : ℕ �
       → board_of (states (round + 1)).boards link ≡ board_of (decisions round).boards link
 
 -- A decision tells what a run's round makes: the plan records, of each node's line the rows that this round and later ones need, and of
--- each link between two nodes the next version, with its forecast.
+-- each link between two nodes the board with which the next round begins.
 pub record TellsRound (net : Net) (heard : ℕ → ℕ → List Heard) (made : ℕ → ℕ → Commitment) (decisions : ℕ → Decision) (round : ℕ) : Type 0 where
   pub plans : (decisions round).plans ≡ plans_in net heard made round
   pub lines : (node : ℕ) → node < length net.node_names → told_line net decisions round node ≡ rows_from (begin_of net round) (made round node).line
   pub boards : (link from to : ℕ) → (link_at net link).from ≡ Some from → (link_at net link).to ≡ Some to
-      → board_of (decisions round).boards link ≡ record { version = round + 1; forecast = forecast_at net made link (round + 1) }
+      → board_of (decisions round).boards link ≡ board_in net made link (round + 1)
 
 -- A chain is a run: each decision tells what the run's round makes, and by its end the same has passed the links.
 pub record IsChainOf (net : Net) (arriving : ℕ → ℕ → ℕ) (heard : ℕ → ℕ → List Heard) (made : ℕ → ℕ → Commitment) (decisions : ℕ → Decision) : Type 0 where

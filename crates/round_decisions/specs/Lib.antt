@@ -4,6 +4,7 @@ pub mod Decisions
 pub mod Lines
 pub mod OfRuns
 pub mod Origins
+pub mod OwnTurns
 pub mod Promises
 pub mod Steps
 pub mod Turns

@@ -1,5 +1,5 @@
 -- The steps of a node's turn, and of a round. No public clause names these definitions.
-use Rattle.std.specs.Prelude.{◌≡◌, ℕ, ◌+◌, ◌<◌, ◌&&◌, ◌++◌, IsTrue, List, [], ◌∷◌, All, if◌then◌else◌, drop, length, map, nat_lt, slice_index_or}
+use Rattle.std.specs.Prelude.{◌≡◌, ℕ, ◌+◌, ◌<◌, ◌≤◌, ◌&&◌, ◌++◌, IsTrue, List, [], ◌∷◌, All, if◌then◌else◌, drop, length, map, nat_lt, slice_index_or}
 use Rattle.std.specs.List.{range_with_len}
 use Rattle.board_model.specs.declared.forecasts.Row.{Row}
 use Rattle.clusters.specs.Windows.{counts_of}
@@ -8,6 +8,7 @@ use Rattle.control_flow.specs.declared.greens.Green.{Green}
 use Rattle.intersection_actor.specs.Acting.{Acting, reading, tells_from, wanting}
 use Rattle.intersection_actor.specs.Commits.{Commitment, IsCommit, record_of}
 use Rattle.intersection_actor.specs.declared.records.PlanRecord.{PlanRecord}
+use Rattle.net_parts.specs.Limits.{most_seconds}
 use Rattle.net_parts.specs.Numbers.{Net}
 use Rattle.net_parts.specs.Outline.{plan_at}
 use Rattle.outflow.specs.Outflow.{departures, told_forecast}
@@ -43,7 +44,7 @@ pub record HasTold (net : Net) (a b : Acting) (old new : List LinkBoard) : Type 
 
 -- on each link on which a node tells another one a further version may be published
 abbrev pub MayTell : Net → ℕ → List LinkBoard → Type 0
-MayTell net node boards = (link : ℕ) → link < length boards → IsTrue (tells net node link) → (board_of boards link).version < 20000
+MayTell net node boards = (link : ℕ) → link < length boards → IsTrue (tells net node link) → (board_of boards link).version ≤ most_seconds
 
 -- a node may have its turn: what it senses is what its node senses in the round's first second, in which its line goes on
 pub record CanTurn (net : Net) (round node : ℕ) (line : List Green) (sensed : Sensed) (boards : List LinkBoard) : Type 0 where

@@ -5,11 +5,21 @@ ghost use Rattle.round_states.specs.declared.asked.Asked.TheVariants.{AllNodes, 
 ghost use Rattle.board_model.specs.declared.boards.Heard.{Heard};
 ghost use Rattle.intersection_actor.specs.Commits.{Commitment};
 ghost use Rattle.round_states.specs.declared.states.RoundState.{RoundState};
+ghost use Rattle.histories.specs.Histories.{read_first};
+ghost use Rattle.runs.specs.Runs.{IsRun};
 ghost use Rattle.runs.specs.declared.records.RunRecord.{RunRecord};
 ghost use Rattle.round_decisions.specs.Chains.{IsChain, IsChainOf};
 ghost use Rattle.round_decisions.specs.Decisions.{IsDecision};
 ghost use Rattle.round_decisions.specs.OfRuns.{IsRoundIn, IsStateIn, IsTurnRun};
 ghost use Rattle.round_decisions.specs.Origins.{IsMovedDecision, IsMovedState, IsMovedTurn, IsTurnOf};
+ghost use Rattle.round_decisions.specs.OwnTurns.{
+  HearsRoundBefore,
+  IsOwnChain,
+  IsOwnChainOf,
+  IsOwnRun,
+  IsOwnStateIn,
+  IsTurnIn,
+};
 ghost use Rattle.round_decisions.specs.declared.decisions.Decision.{Decision};
 ghost use Rattle.round_decisions.specs.declared.decisions.NodeDecision.{NodeDecision};
 
@@ -54,6 +64,30 @@ pub fn law_of_origins(net: &Network)
         → IsStateOf net.now (OneNode (Some node)) state → IsMovedState net.now rounds state moved
         → node < length net.now.node_names → IsTurnOf net.now state node d → IsTurnOf net.now moved node other
         → IsMovedTurn net.now rounds state moved d other }
+{
+    law_of_network(net);
+}
+
+/// Of the run of the read-first order, in which in each round all nodes read before any of them publishes. Each node hears what was told
+/// in the round before. So the turn that a node has by itself, from its own line, what it senses and these forecasts, is its part of
+/// the run's round; a chain of such turns, in which nodes have nothing of each other but the forecasts, is the run; and each such
+/// chain makes one.
+///
+/// docs/RULES.md, "Decision of a round".
+pub fn law_of_own_turns(net: &Network)
+    ensures heard { (arriving : ℕ → ℕ → ℕ) (record_of_run : RunRecord)
+        → (run : IsRun net.now arriving (read_first net.now) record_of_run)
+        → HearsRoundBefore net.now run.heard run.made }
+    ensures turn { (arriving : ℕ → ℕ → ℕ) (record_of_run : RunRecord) (state : RoundState) (node : ℕ) (d : NodeDecision)
+        → (run : IsRun net.now arriving (read_first net.now) record_of_run) → node < length net.now.node_names
+        → IsOwnStateIn net.now arriving run.made node state → IsTurnOf net.now state node d
+        → IsTurnIn net.now run.heard run.made state.round node d }
+    ensures chain { (arriving : ℕ → ℕ → ℕ) (record_of_run : RunRecord)
+        (states : ℕ → ℕ → RoundState) (turns : ℕ → ℕ → NodeDecision)
+        → (run : IsRun net.now arriving (read_first net.now) record_of_run) → IsOwnChain net.now arriving states turns
+        → IsOwnChainOf net.now arriving run.heard run.made turns }
+    ensures run { (arriving : ℕ → ℕ → ℕ) (states : ℕ → ℕ → RoundState) (turns : ℕ → ℕ → NodeDecision)
+        → IsOwnChain net.now arriving states turns → IsOwnRun net.now arriving turns }
 {
     law_of_network(net);
 }

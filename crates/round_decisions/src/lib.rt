@@ -13,5 +13,5 @@ mod turn_records;
 
 pub use decision_texts::{decision_text, node_decision_text};
 pub use decisions::{Decision, NodeDecision, decide, decide_node};
-pub use laws::{law_of_chains, law_of_decisions, law_of_origins};
+pub use laws::{law_of_chains, law_of_decisions, law_of_origins, law_of_own_turns};
 pub use lines::rows_from;

@@ -1,8 +1,9 @@
 //! A node's turn: it senses, hears what stands on the boards, plans, and publishes what it tells.
-ghost use Rattle.std.specs.Prelude.{◌≡◌, ℕ, ◌+◌, ◌<◌, [], ◌∷◌, All, IfOk, OnOk, length};
+ghost use Rattle.std.specs.Prelude.{◌≡◌, ℕ, ◌+◌, ◌<◌, ◌≤◌, [], ◌∷◌, All, IfOk, OnOk, length};
 ghost use Rattle.control_flow.specs.Greens.{end_of};
 ghost use Rattle.intersection_actor.specs.Acting.{reading, tells_from, wanting, with_heard};
 ghost use Rattle.intersection_actor.specs.Rounds.{IsOf};
+ghost use Rattle.net_parts.specs.Limits.{most_seconds};
 ghost use Rattle.net_parts.specs.Numbers.{Net};
 ghost use Rattle.round_states.specs.States.{begin_of};
 ghost use Rattle.round_decisions.specs.Steps.{CanTurn, HasHeard, HasPlayed, MayTell, outgoing};
@@ -70,7 +71,7 @@ fn publish(
 ) -> Result<(), AllocError>
     requires of { IsOf net.now actor.old }
     requires want { actor.old.want ≡ Want.Publish link }
-    requires below { board.old.version < 20000 }
+    requires below { board.old.version ≤ most_seconds }
     ensures told { OnOk result (actor.new ≡ wanting (tells_from net.now actor.old.node (link + 1)) actor.old) }
     ensures board { OnOk result (board.new ≡ next_board board.old (outgoing net.now actor.old link)) }
     ensures of { IsOf net.now actor.new }

@@ -6,6 +6,8 @@ use Rattle.std.proofs.lemmas.Nat.{div-add-mod'}
 use Rattle.std.proofs.Math.Nat.{zero-mod}
 use Rattle.std.proofs.Math.Seq.{get_or-append_seam}
 use Rattle.std.proofs.Math.ListN.{get_or-append}
+use Rattle.net_parts.proofs.OutlineLaws.{known-most}
+use Rattle.net_parts.specs.Limits.{most_seconds}
 use Rattle.net_parts.specs.Numbers.{Net}
 use Rattle.road_net.specs.Network.{IsNetwork}
 use Rattle.round_states.specs.declared.entries.Entry.{Entry}
@@ -49,6 +51,6 @@ begin-now net network (e ∷ es) order = first-begin net e.content (order 0 e (o
 pub begin-round : (net : Net) (now : ℕ) → IsBegin net now → now ≡ begin_of net (now / net.run.step)
 begin-round net now begin = let e = div-add-mod' now net.run.step in let f = rw begin.step at e in omega (arith, f)
 
--- no round begins later
-pub begin-bound : (net : Net) → IsNetwork net → (now : ℕ) → IsBegin net now → now ≤ 18000
-begin-bound net network now begin = (let early = begin.early in omega arith)
+-- no round begins later than a day
+pub begin-bound : (net : Net) → IsNetwork net → (now : ℕ) → IsBegin net now → now ≤ most_seconds
+begin-bound net network now begin = omega (arith, begin.early, known-most net network.outline)

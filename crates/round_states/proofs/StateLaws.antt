@@ -4,9 +4,8 @@ use Rattle.std.specs.List.{range_with_len}
 use Rattle.std.proofs.lemmas.List.Elements.{All-map}
 use Rattle.std.proofs.lemmas.List.FromFn.{get_or-map-range_with_len, get_or-range_with_len, length-map-range_with_len, length-range_with_len}
 use Rattle.control_flow.specs.Greens.{BeginBy}
-use Rattle.net_parts.specs.Limits.{most_seconds}
 use Rattle.net_parts.specs.Numbers.{Net}
-use Rattle.net_parts.specs.Outline.{link_at, plan_at}
+use Rattle.net_parts.specs.Outline.{known_seconds, link_at, plan_at}
 use Rattle.board_model.specs.Forecasts.{amount_at}
 use Rattle.road_net.specs.declared.senses.LinkSense.{LinkSense}
 use Rattle.road_net.specs.Network.{IsNetwork, entry_links}
@@ -62,7 +61,7 @@ module _ (net : Net) (network : IsNetwork net) (es : List Entry) (order : AreInO
 
     state-is : IsStateOf net asked (state_in net es)
     state-is = record {
-      round = subst (λ now. now < most_seconds) now-is (begin-now net network es order).early;
+      round = subst (λ now. now < known_seconds net) now-is (begin-now net network es order).early;
       sensed_count = length-map-range_with_len (sensed_in net es) 0 (length net.node_names);
       sensed = sensed-at;
       line_count = length-map-range_with_len (all_said green_said es) 0 (length net.node_names);

@@ -1,15 +1,14 @@
 -- In which order the records of a state may stand.
 use Rattle.std.specs.Prelude.{◌≡◌, ℕ, ◌+◌, ◌%◌, ◌<◌, ◌≤◌, List, [], ◌∷◌, length, slice_index_or, take}
-use Rattle.net_parts.specs.Limits.{most_seconds}
 use Rattle.net_parts.specs.Numbers.{Net}
-use Rattle.net_parts.specs.Outline.{link_at}
+use Rattle.net_parts.specs.Outline.{known_seconds, link_at}
 use Rattle.round_states.specs.declared.entries.Entry.{Entry}
 use Rattle.round_states.specs.declared.entries.StateRecord.{StateRecord}
 use Rattle.round_states.specs.declared.entries.StateRecord.TheVariants.{Begins, Comes}
 
--- a round of the network begins in this second: however many rounds a run of it has, before second 18,000
+-- a round of the network begins in this second: one that its files may name
 pub record IsBegin (net : Net) (second : ℕ) : Type 0 where
-  pub early : second < most_seconds
+  pub early : second < known_seconds net
   pub step : second % net.run.step ≡ 0
 
 -- the first record says when the round begins

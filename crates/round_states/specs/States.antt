@@ -3,9 +3,8 @@ use Rattle.std.specs.Prelude.{◌≡◌, ℕ, ◌+◌, ◌*◌, ◌<◌, ◌≤�
 use Rattle.board_model.specs.Forecasts.{IsForecast}
 use Rattle.control_flow.specs.declared.greens.Green.{Green}
 use Rattle.control_flow.specs.Greens.{BeginBy, IsLawful, end_of, row_at}
-use Rattle.net_parts.specs.Limits.{most_seconds}
 use Rattle.net_parts.specs.Numbers.{Net}
-use Rattle.net_parts.specs.Outline.{plan_at}
+use Rattle.net_parts.specs.Outline.{known_seconds, plan_at}
 use Rattle.phase_plan.specs.declared.Phase.{Phase}
 use Rattle.road_net.specs.declared.senses.Sensed.{Sensed}
 use Rattle.road_net.specs.Senses.{IsSensedOf}
@@ -56,10 +55,10 @@ pub record IsBoard (round : ℕ) (board : LinkBoard) : Type 0 where
   pub none : board.version ≡ 0 → board.forecast ≡ []
 
 -- The state in which a round of the network begins, or in which some of its nodes have had their turns, and these nodes are to have
--- theirs: it begins before second 18,000, each node senses its entry links in the first second of the round, the timelines of those that are asked go on there, none has a
--- row that begins too late, and each link has a board.
+-- theirs: it begins in a second that the network's files may name, each node senses its entry links in the first second of the round, the timelines
+-- of those that are asked go on there, none has a row that begins too late, and each link has a board.
 pub record IsStateOf (net : Net) (asked : Asked) (state : RoundState) : Type 0 where
-  pub round : begin_of net state.round < most_seconds
+  pub round : begin_of net state.round < known_seconds net
   pub sensed_count : length state.sensed ≡ length net.node_names
   pub sensed : (n : ℕ) → n < length net.node_names → IsSensedAt net (begin_of net state.round) n (slice_index_or state.sensed n no_sense)
   pub line_count : length state.lines ≡ length net.node_names

@@ -7,9 +7,6 @@ ghost use Rattle.round_states.specs.Texts.{round_in};
 use crate::entries::{Entry, StateRecord};
 use road_net::Network;
 
-/// A round begins before this second, however many rounds a run of the network has.
-const MOST_SECONDS: u32 = 18_000;
-
 /// Whether a record may stand after these.
 pub(crate) fn fits_after(net: &Network, before: &[Entry], entry: &Entry) -> bool
     ensures { IsTrue result ↔ FitsAfter net.now before.now entry.now }
@@ -68,11 +65,11 @@ fn is_later(net: &Network, now: u32, place: u32, content: &StateRecord) -> bool
     }
 }
 
-/// Whether a round begins in this second.
+/// Whether a round begins in this second, which is one that the network's files may name.
 fn is_begin(net: &Network, second: u32) -> bool
     ensures { IsTrue result ↔ IsBegin net.now second }
 {
-    second < MOST_SECONDS && second % net.run().step == 0
+    second < net.known_seconds() && second % net.run().step == 0
 }
 
 /// Whether what comes on a link in this second is on the way.

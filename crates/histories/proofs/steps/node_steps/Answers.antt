@@ -1,4 +1,4 @@
-use Rattle.std.proofs.Common.{refl, ap, length, arith}
+use Rattle.std.proofs.Common.{ap, length, arith}
 use Rattle.histories.proofs.StepLaws.{steps-both, steps-few}
 use Rattle.histories.proofs.steps.node_steps.Goals as goal
 
