@@ -1,6 +1,7 @@
 -- The text of records that tell a clean sheet is a clean text.
 use Rattle.std.proofs.Common.{ℕ, ◌*◌, ◌<◌, ◌≤◌, List, ◌∷◌, ◌++◌, length, All, sym, subst, arith}
 use Rattle.std.proofs.lemmas.List.FromFn.{length-map-range_with_len}
+use Rattle.net_parts.specs.Limits.{most_of_all, most_seconds}
 use Rattle.net_parts.specs.Numbers.{Net}
 use Rattle.road_net.specs.Network.{IsNetwork}
 use Rattle.road_net.proofs.TotalLaws.{total-le}
@@ -31,14 +32,8 @@ module _ (net : Net) (network : IsNetwork net) (arriving : ℕ → ℕ → ℕ) 
   abbrev end : ℕ
   end = end_of_run net
 
-  early : end ≤ 18000
-  early =
-      let step = network.outline.run.step.1 in
-      let rounds = network.outline.run.rounds.1 in
-      product net.run.rounds net.run.step rounds step
-    where
-      product : (a b : ℕ) → a ≤ 600 → b ≤ 30 → a * b ≤ 18000
-      product a b small short = grind (arith, small, short)
+  early : end ≤ most_seconds
+  early = network.outline.run.seconds
 
   parsed-counts : (l : ℕ) → l < length net.link_names → AreToldCounts (link_totals net (cumulative_of_lines net arriving lines) end l)
   parsed-counts l below =
@@ -52,12 +47,12 @@ module _ (net : Net) (network : IsNetwork net) (arriving : ℕ → ℕ → ℕ) 
   parsed-sums : AreToldSums (totals net arriving (cumulative_of_lines net arriving lines) end)
   parsed-sums =
       let past : ℕ → ℕ → Cumulative = cumulative_of_lines net arriving lines in
-      let each = total-le (delay net past end) (λ l. 36000000000000) (length net.link_names) (λ l below. omega (arith, delay-small net network arriving shown few end l below, early)) in
+      let each = total-le (delay net past end) (λ l. most_seconds * most_of_all) (length net.link_names) (λ l below. omega (arith, delay-small net network arriving shown few end l below, early)) in
       record {
         entered = omega (arith, few end);
         left = omega (arith, gone-most net network arriving shown few end);
         on = omega (arith, on-road-most net network arriving shown few end);
-        delay = omega (arith, each, total-of 36000000000000 (length net.link_names), network.outline.link_count.1);
+        delay = omega (arith, each, total-of (most_seconds * most_of_all) (length net.link_names), network.outline.link_count.1);
       }
 
 module _ (net : Net) (network : IsNetwork net) (arriving : ℕ → ℕ → ℕ) (few : AreFew net arriving) (s : Sheet) (shape : HasShape net s) (clean : IsClean net arriving s)

@@ -6,6 +6,7 @@ use Rattle.std.proofs.lemmas.List.Elements.{All-append, All-filter, All-map}
 use Rattle.std.proofs.lemmas.List.Sums.{count_by-le-length}
 use Rattle.std.proofs.lemmas.List.FromFn.{get_or-map-range_with_len, length-range_with_len, map-range_with_len_more}
 use Rattle.std.specs.List.{range_with_len}
+use Rattle.net_parts.specs.Limits.{most_links}
 use Rattle.net_parts.specs.Numbers.{Net}
 use Rattle.net_parts.specs.Outline.{link_at}
 use Rattle.road_net.specs.Network.{IsNetwork, exit_links, heard_links, told_links}
@@ -96,7 +97,7 @@ module _ (net : Net) (h : List ℕ) (lawful : IsLawful net h) (i : ℕ) (inside 
     pub some-own : 0 < length own
     some-own = omega (arith, has-steps net stands.network h lawful i inside, ap length owned)
 
-    pub own-few : length own ≤ 320
+    pub own-few : length own ≤ most_links
     own-few = omega (arith, (are-steps net stands.network).few (get_or h i 0), ap length owned)
 
     pub round-is : (round : ℕ) → round ≡ taken / length own → round ≡ round_at (board_steps net) h i

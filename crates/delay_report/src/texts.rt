@@ -35,7 +35,7 @@ pub fn read_history(alloc: Global, bytes: &[u8], net: &Network) -> Result<Histor
 {
     let mut reader = HistoryReader {
         steps: Vec::new(alloc),
-        progress: Progress::new(net),
+        progress: Progress::new(alloc, net)?,
     };
     if !take_records(alloc, bytes, net, &mut reader)? {
         return Err(HistoryFault::Header);

@@ -1,5 +1,6 @@
 -- Rows of a fixed plan, one after another.
 use Rattle.std.proofs.Common.{◌≡◌, ℕ, ◌+◌, ◌*◌, ◌<◌, ◌≤◌, List, [], ◌∷◌, ◌++◌, length, Option, None, Some, IfSome, refl, inl, inr, arith}
+use Rattle.net_parts.specs.Limits.{most_nodes}
 use Rattle.net_parts.specs.Numbers.{Net}
 use Rattle.net_parts.specs.Outline.{plan_at}
 use Rattle.fixed_plans.specs.declared.rows.Before.{Before}
@@ -51,10 +52,10 @@ module _ (net : Net) (phases : (node : ℕ) → node < length net.node_names →
       let rest = all-passed (Some (as_before before r)) rows (record { node = are.0.node; phase = phase-exists net before r are.0.next }) are.1 in
       omega (arith, here, rest)
 
-  last-passed : (before : Option Before) → length net.node_names ≤ 64 → IfSome before (IsPlaced net) → passed_by before ≤ 256
+  last-passed : (before : Option Before) → length net.node_names ≤ most_nodes → IfSome before (IsPlaced net) → passed_by before ≤ 4 * most_nodes
   last-passed None few placed = omega arith
   last-passed (Some b) few placed = omega (arith, few, placed.node, placed.phase, phases b.row.node placed.node)
 
   -- lawful rows are few
-  pub rows-few : length net.node_names ≤ 64 → (rows : List FixedRow) → AreRowsAfter net None rows → length rows ≤ 256
+  pub rows-few : length net.node_names ≤ most_nodes → (rows : List FixedRow) → AreRowsAfter net None rows → length rows ≤ 4 * most_nodes
   rows-few few rows are = omega (arith, all-passed None rows tt are, last-passed (last_of None rows) few (last-placed net None rows tt are))

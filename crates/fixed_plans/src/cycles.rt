@@ -161,7 +161,7 @@ fn next_index(index: usize, count: usize) -> usize
 fn add_green(row: &FixedRow, at: u32, lead: u32, rows: &mut Vec<Green>) -> Result<(), AllocError>
     requires phase { row.now.phase < 4 }
     requires green { row.now.green ≤ 240 }
-    requires at { at ≤ 30000 }
+    requires at { at ≤ 100000 }
     ensures { OnOk result (rows.new.items ≡ rows.old.items
         ++ (if nat_lt at lead then [] else green_of (at - lead) row.now ∷ [])) }
 {

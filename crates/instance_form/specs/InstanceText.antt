@@ -73,7 +73,7 @@ form_text v plan head lists = concat (
     cluster_lines v 0 lists ∷
     line (codes "end" ∷ []) ∷ [])
 
--- the same in the least version that says them, and whether the ring may be free
+-- the text of these in the least version that says them, with whether the ring may be free
 unfoldable pub whole_text : Bool → List Phase → Head → List (List Cluster) → List ℕ
 whole_text free plan head lists = form_text (version_of free plan lists) plan head lists
 

@@ -168,7 +168,8 @@ pub fn read_form(alloc: Global, bytes: &[u8]) -> Result<Form, FormFault>
 ///
 /// docs/FORMATS.md, "Instance text".
 pub fn law_of_instance_texts()
-    ensures { (free may : Bool) (plan others : List Phase) (h g : Head) (lists queues : List (List Cluster)) (x y : List ℕ)
+    ensures { (free may : Bool) (plan others : List Phase) (h g : Head)
+        → (lists queues : List (List Cluster)) (x y : List ℕ)
         → HasText plan h lists → IsFreeWhere free plan → HasText others g queues → IsFreeWhere may others
         → whole_text free plan h lists ++ x ≡ whole_text may others g queues ++ y
         → (free ≡ may) × (plan ≡ others) × (h ≡ g) × (lists ≡ queues) × (x ≡ y) }

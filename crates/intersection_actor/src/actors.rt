@@ -189,7 +189,7 @@ impl Actor {
     /// Begins a round, in whose first second the node senses this: it wants to read the first link on which it hears another
     /// node, or to plan where it hears none.
     ///
-    /// It has done the round before, the round begins by second 18,000, and some row of its timeline ends after the round's first
+    /// It has done the round before, the round begins by second 86,400, and some row of its timeline ends after the round's first
     /// second. `Err`: out of memory; all stays as it was.
     ///
     /// docs/RULES.md, "A node's round".

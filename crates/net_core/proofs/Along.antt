@@ -24,7 +24,7 @@ abbrev pub gone : Net → Amounts → List ℕ → ℕ → Course
 gone net arrivals h place = record { net = net; arrivals = arrivals; steps = take place h; spent = false }
 
 -- a step is wanted
-wants-it : (step : BoardStep) → Done ≡ wanted_step (Some step) → ⊥
+pub wants-it : (step : BoardStep) → Done ≡ wanted_step (Some step) → ⊥
 wants-it (steps.Read link) e = cc
 wants-it (steps.Publish link) e = cc
 

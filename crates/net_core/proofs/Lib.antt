@@ -1,12 +1,16 @@
 pub mod Along
+pub mod Opened
 pub mod Over
 pub mod Playing
 pub mod Prefixes
 pub mod Put
+pub mod Room
 pub mod Rounds
 pub mod Running
 pub mod Standing
 pub mod Starting
 pub mod Steps
+pub mod Tallied
+pub mod TurnLaws
 pub mod Turns
 pub mod Wanting

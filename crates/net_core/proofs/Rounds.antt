@@ -1,6 +1,5 @@
 -- A round begins, node by node, and ends.
 use Rattle.std.proofs.Common.{◌≡◌, ℕ, ◌+◌, ◌<◌, ◌≤◌, List, [], ◌∷◌, length, get_or, set, refl, sym, ap, subst, ◌∙◌, inl, inr, arith, append-nil, length-set, get_or-set_same, get_or-set_other}
-use Rattle.std.specs.Global.{Vec}
 use Rattle.std.proofs.lemmas.Bool.{cases_eq}
 use Rattle.arrivals.specs.Amounts.{Amounts, AreArrivals, arriving_of}
 use Rattle.control_flow.specs.declared.greens.Green.{Green}
@@ -26,7 +25,7 @@ use Rattle.net_core.proofs.Prefixes.{Begun}
 use Rattle.net_core.proofs.Put.{put, put-node, put-round}
 use Rattle.net_core.proofs.Running.{commit-on}
 
-module _ (net : Net) (network : IsNetwork net) (arrivals : Amounts) (history : List ℕ) (round : ℕ) (boards : List Board) (world : WorldState) (plans : Vec PlanRecord) where
+module _ (net : Net) (network : IsNetwork net) (arrivals : Amounts) (history : List ℕ) (round : ℕ) (boards : List Board) (world : WorldState) (plans : List PlanRecord) where
   -- a node begins the round
   module _ (actors : List Acting) (i : ℕ) (inside : i < length net.node_names) (b : Begins net arrivals history round actors boards world plans i) where
     pub begin-world : AreArrivals net arrivals → IsWorldOf net world

@@ -1,6 +1,5 @@
 -- How a run goes on: by a reading, a publishing, a commit, and a round of seconds.
 use Rattle.std.proofs.Common.{◌≡◌, ℕ, zero, suc, ◌+◌, ◌*◌, ◌/◌, ◌<◌, ◌≤◌, cond, Bool, true, false, List, [], ◌∷◌, ◌++◌, Option, Some, length, get_or, set, refl, sym, ap, subst, ◌∙◌, inl, inr, arith, length-set, get_or-set_same, get_or-set_other, eqb, ne_eqb, eq-eqb}
-use Rattle.std.specs.Global.{Vec}
 use Rattle.std.specs.Prelude.{Contains, unwrap_or}
 use Rattle.std.proofs.lemmas.Bool.{cases_eq, cases_lt}
 use Rattle.std.proofs.lemmas.Nat.{div_below}
@@ -34,7 +33,7 @@ use Rattle.net_core.proofs.Put.{put, put-here, put-node, put-round}
 contains-moved : (heard : ℕ → ℕ → List Heard) (r s m n : ℕ) (x y : Heard) → r ≡ s → m ≡ n → x ≡ y → Contains (heard r m) x → Contains (heard s n) y
 contains-moved heard r s m n x y e f g c = subst (Contains (heard s n)) g (subst (λ k. Contains (heard s k) x) f (subst (λ k. Contains (heard k m) x) e c))
 
-module _ (net : Net) (network : IsNetwork net) (arrivals : Amounts) (heard : ℕ → ℕ → List Heard) (made : ℕ → ℕ → Commitment) (p : List ℕ) (round : ℕ) (boards : List Board) (world : WorldState) (plans : Vec PlanRecord)
+module _ (net : Net) (network : IsNetwork net) (arrivals : Amounts) (heard : ℕ → ℕ → List Heard) (made : ℕ → ℕ → Commitment) (p : List ℕ) (round : ℕ) (boards : List Board) (world : WorldState) (plans : List PlanRecord)
     (way : Begun net network round p) (is : IsRunning net arrivals heard made p round boards world plans) (n : ℕ) where
   -- what was heard at the places before stays, where each node has heard at least as much
   along-before : (seen : ℕ → ℕ → List Heard) → ((r m : ℕ) (x : Heard) → Contains (heard r m) x → Contains (seen r m) x) → (place link : ℕ) → place < length p
@@ -113,10 +112,7 @@ module _ (net : Net) (network : IsNetwork net) (arrivals : Amounts) (heard : ℕ
       };
       second = is.second;
       stands = is.stands;
-      planned = record {
-        done = is.planned.done ∙ plans-same net heard seen made made round (λ r m less below. sym (put-round heard round n (heard round n ++ hearing net made link version ∷ []) r m (λ e. omega arith))) (λ r m less below. refl);
-        capacity = is.planned.capacity;
-      };
+      planned = is.planned ∙ plans-same net heard seen made made round (λ r m less below. sym (put-round heard round n (heard round n ++ hearing net made link version ∷ []) r m (λ e. omega arith))) (λ r m less below. refl);
     }
 
   -- a publishing
@@ -214,5 +210,5 @@ module _ (net : Net) (network : IsNetwork net) (arrivals : Amounts) (heard : ℕ
       };
       second = is.second;
       stands = stands-at-nodes net network (arriving_of arrivals) (shown_by net made) (shown_by net committed) world (λ x m less below. shown-same x m (omega (arith, is.second))) is.stands;
-      planned = record { done = is.planned.done ∙ plans-same net heard heard made committed round (λ r m less below. refl) before-same; capacity = is.planned.capacity };
+      planned = is.planned ∙ plans-same net heard heard made committed round (λ r m less below. refl) before-same;
     }

@@ -1,6 +1,5 @@
--- The parts of a core before the first round.
-use Rattle.std.proofs.Common.{◌≡◌, ℕ, ◌+◌, ◌*◌, ◌<◌, ◌≤◌, List, [], ◌∷◌, ◌++◌, Some, None, length, vec_capacity, refl, sym, ap, ◌∙◌, inl, inr, arith}
-use Rattle.std.specs.Global.{Vec}
+-- The parts of a run before the first round.
+use Rattle.std.proofs.Common.{◌≡◌, ℕ, ◌<◌, List, [], Some, None, length, refl, sym, ap, ◌∙◌, inl, inr, arith}
 use Rattle.std.proofs.lemmas.Bool.{cases_lt}
 use Rattle.std.proofs.lemmas.List.{get_or_past}
 use Rattle.arrivals.specs.Amounts.{Amounts, arriving_of}
@@ -27,9 +26,9 @@ link-there net l t to = elim (cases_lt l (length net.links)) [
   | inr past ↦ absurd (let e : None ≡ Some t = sym (ap (λ (k : Link). k.to) (get_or_past net.links l no_link past)) ∙ to in cc)
 ]
 
-pub at-first : (net : Net) → IsNetwork net → (arrivals : Amounts) (history : List ℕ) (actors : List Acting) (boards : List Board) (world : WorldState) (plans : Vec PlanRecord) → history ≡ [] → AreNew net (length net.node_names) actors → AreBlank (length net.link_names) boards
-    → world.second ≡ 0 → ((arriving : ℕ → ℕ → ℕ) (shown : ℕ → ℕ → Sign) → Stands net arriving shown world) → plans.items ≡ [] → net.run.rounds * length net.node_names ≤ vec_capacity plans → Between net arrivals history 0 actors boards world plans
-at-first net network arrivals history actors boards world plans none new blank second stands unplanned capacity = record {
+pub at-first : (net : Net) → IsNetwork net → (arrivals : Amounts) (history : List ℕ) (actors : List Acting) (boards : List Board) (world : WorldState) (plans : List PlanRecord) → history ≡ [] → AreNew net (length net.node_names) actors → AreBlank (length net.link_names) boards
+    → world.second ≡ 0 → ((arriving : ℕ → ℕ → ℕ) (shown : ℕ → ℕ → Sign) → Stands net arriving shown world) → plans ≡ [] → Between net arrivals history 0 actors boards world plans
+at-first net network arrivals history actors boards world plans none new blank second stands unplanned = record {
   heard = λ r n. [];
   made = λ r n. no_commitment;
   rounds_done = none;
@@ -44,7 +43,7 @@ at-first net network arrivals history actors boards world plans none new blank s
     };
     second = second ∙ zero-times net.run.step;
     stands = stands (arriving_of arrivals) (shown_by net (λ r n. no_commitment));
-    planned = record { done = unplanned; capacity = capacity };
+    planned = unplanned;
   };
   all = new.all;
   fresh = λ later n most. refl;

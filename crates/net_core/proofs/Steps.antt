@@ -1,6 +1,5 @@
 -- A node does its next board step, and a round ends.
-use Rattle.std.proofs.Common.{◌≡◌, ℕ, suc, ◌+◌, ◌-◌, ◌*◌, ◌<◌, ◌≤◌, Bool, true, false, List, [], ◌∷◌, ◌++◌, length, map, drop, get_or, set, vec_capacity, vec_len, refl, sym, ap, subst, ◌∙◌, inl, inr, arith, append_assoc, length-set, get_or-set_same, get_or-set_other}
-use Rattle.std.specs.Global.{Vec}
+use Rattle.std.proofs.Common.{◌≡◌, ℕ, suc, ◌+◌, ◌-◌, ◌*◌, ◌<◌, ◌≤◌, Bool, true, false, List, [], ◌∷◌, ◌++◌, All, length, map, drop, get_or, set, refl, sym, ap, subst, ◌∙◌, inl, inr, arith, append_assoc, length-set, get_or-set_same, get_or-set_other}
 use Rattle.std.proofs.lemmas.Bool.{cases_eq, cases_lt}
 use Rattle.std.proofs.lemmas.List.{drop_all, drop_more, get_or-append_right, get_or-map, length-map, length-drop}
 use Rattle.arrivals.specs.Amounts.{Amounts, arriving_of}
@@ -16,7 +15,7 @@ use Rattle.histories.specs.declared.steps.BoardStep.TheVariants as steps
 use Rattle.histories.proofs.Counts.{count-append, count-else, count-one}
 use Rattle.histories.proofs.StepLaws.{step-count, steps-beyond}
 use Rattle.intersection_actor.specs.Acting.{Acting, reading, tells_from, with_heard, without_records}
-use Rattle.intersection_actor.specs.Commits.{Commitment, phases_of}
+use Rattle.intersection_actor.specs.Commits.{Commitment, phases_of, record_of}
 use Rattle.intersection_actor.specs.Rounds.{IsCommitted, IsOf}
 use Rattle.intersection_actor.specs.declared.records.Want.{Want}
 use Rattle.intersection_actor.specs.declared.records.Want.TheVariants.{Read, Commit, Publish, Done}
@@ -25,12 +24,14 @@ use Rattle.net_parts.specs.Numbers.{Net}
 use Rattle.net_simulator.specs.Worlds.{WorldState, Stands, signs_by}
 use Rattle.outflow.specs.Outflow.{departures, told_forecast}
 use Rattle.road_net.specs.Network.{IsNetwork, heard_links, told_links}
+use Rattle.schedule_meaning.specs.Best.{IsLeast}
 use Rattle.switch_rules.specs.declared.Served.{Served}
 use Rattle.runs.specs.Runs.{AllCommit, Commits, forecast_at, hearing, line_before, shown_by, told_in}
 use Rattle.runs.proofs.Agree.{SameBefore}
 use Rattle.runs.proofs.Heard.{heard-ends}
 use Rattle.runs.proofs.Places.{first-small}
-use Rattle.runs.proofs.PlanLists.{next-room, plans-next}
+use Rattle.runs.proofs.PlanLaws.{round-least}
+use Rattle.runs.proofs.PlanLists.{plans-more, plans-of-round, round-plans}
 use Rattle.runs.specs.Ending.{records_in}
 use Rattle.runs.specs.Resting.{Rests, lines_of}
 use Rattle.intersection_actor.proofs.RoundLaws.{of-without}
@@ -87,7 +88,7 @@ told-step net n c past inside =
     get_or-append_right (map steps.Read (heard_links net n)) (map steps.Publish (told_links net n)) (length (heard_links net n)) c (steps.Read 0) reads past
     ∙ get_or-map steps.Publish (told_links net n) (c - length (heard_links net n)) 0 (steps.Read 0) inside
 
-module _ (net : Net) (network : IsNetwork net) (arrivals : Amounts) (history : List ℕ) (round : ℕ) (actors : List Acting) (boards : List Board) (world : WorldState) (plans : Vec PlanRecord) (i : InRound net arrivals history round actors boards world plans) where
+module _ (net : Net) (network : IsNetwork net) (arrivals : Amounts) (history : List ℕ) (round : ℕ) (actors : List Acting) (boards : List Board) (world : WorldState) (plans : List PlanRecord) (i : InRound net arrivals history round actors boards world plans) where
   abbrev pub way : Begun net network round history
   way = record { early = i.early; part = i.part; whole = i.whole; rounds_done = i.rounds_done; within = i.within; most = (let less = i.below in omega arith); over = λ e. absurd (let less = i.below in omega arith) }
 
@@ -328,14 +329,22 @@ module _ (net : Net) (network : IsNetwork net) (arrivals : Amounts) (history : L
         earlier : (x : ℕ) → x < world.second → x < (round + 1) * net.run.step
         earlier x less = (let e : (round + 1) * net.run.step ≡ round * net.run.step + net.run.step = omega arith in omega (arith, e, i.running.second))
 
-    -- there is room for what the nodes have planned
-    pub plans-room : Acting → vec_len plans + length (records_in actors) ≤ vec_capacity plans
-    plans-room d = next-room net i.heard i.made round plans i.running.planned actors i.all (λ n e below. (over-tells n e below).records) i.below
+    -- each node has planned once, and no sequence has less delay
+    one-each : (n : ℕ) (d : Acting) → n < length net.node_names → (get_or actors n d).records ≡ record_of n round (i.heard round n) (i.made round n) ∷ []
+    one-each n d below = (over-tells n d below).records
+
+    pub over-records : length (records_in actors) ≡ length net.node_names
+    over-records = ap length (round-plans net i.heard i.made round actors i.all one-each) ∙ plans-of-round net i.heard i.made round
+
+    pub over-least : Acting → All (λ (p : PlanRecord). IsLeast p.instance p.answer) (records_in actors)
+    over-least d =
+        subst (All (λ (p : PlanRecord). IsLeast p.instance p.answer)) (sym (round-plans net i.heard i.made round actors i.all one-each))
+        (round-least net (arriving_of arrivals) i.heard i.made (round + 1) round (over-commits d) (omega arith))
 
     -- so the next round can begin
-    pub round-over : (moved : WorldState) (next : Vec PlanRecord) (d : Acting) → moved.second ≡ world.second + net.run.step → Stands net (arriving_of arrivals) (signs_by (lines_of actors)) moved
-        → next.items ≡ plans.items ++ records_in actors → vec_capacity plans ≤ vec_capacity next → Between net arrivals history (round + 1) (map without_records actors) boards moved next
-    round-over moved next d second stands added grown =
+    pub round-over : (moved : WorldState) (d : Acting) → moved.second ≡ world.second + net.run.step → Stands net (arriving_of arrivals) (signs_by (lines_of actors)) moved
+        → Between net arrivals history (round + 1) (map without_records actors) boards moved (plans ++ records_in actors)
+    round-over moved d second stands =
         let now : moved.second ≡ (round + 1) * net.run.step = (let e : (round + 1) * net.run.step ≡ round * net.run.step + net.run.step = omega arith in omega (arith, e, second, i.running.second)) in
         let one : suc round ≡ round + 1 = omega arith in
         record {
@@ -349,7 +358,7 @@ module _ (net : Net) (network : IsNetwork net) (arrivals : Amounts) (history : L
             boards_are = i.running.boards_are;
             second = now;
             stands = stands-at-nodes net network (arriving_of arrivals) (signs_by (lines_of actors)) (shown_by net i.made) moved (λ x n less below. lines-show d x n (omega arith) below) stands;
-            planned = plans-next net i.heard i.made round plans i.running.planned actors i.all (λ n e below. (over-tells n e below).records) next added grown;
+            planned = ap (λ l. l ++ records_in actors) i.running.planned ∙ plans-more net i.heard i.made round actors i.all one-each;
           };
           all = length-map actors without_records ∙ i.all;
           fresh = λ later node more. i.fresh later node (omega arith);

@@ -14,6 +14,7 @@ use Rattle.histories.proofs.Counts.{count-append}
 use Rattle.histories.proofs.Rounds.{all-done, rounds-count}
 use Rattle.histories.proofs.StepLaws.{step-count}
 use Rattle.intersection_actor.specs.Acting.{Acting}
+use Rattle.intersection_actor.specs.declared.records.PlanRecord.{PlanRecord}
 use Rattle.intersection_actor.specs.declared.records.Want.{Want}
 use Rattle.intersection_actor.specs.declared.records.Want.TheVariants.{Done}
 use Rattle.net_parts.specs.Numbers.{Net}
@@ -71,10 +72,10 @@ publish-step : (net : Net) (n c : ℕ) → length (heard_links net n) ≤ c → 
     → slice_get (board_steps net n) c ≡ Some (steps.Publish (get_or (told_links net n) (c - length (heard_links net n)) 0))
 publish-step net n c past inside = slice_get-get_or (board_steps net n) c (steps.Read 0) (omega (arith, step-count net n)) ∙ ap (λ (s : BoardStep). Some s) (told-step net n c past inside)
 
-module _ (net : Net) (network : IsNetwork net) (arrivals : Amounts) (p : Parts) where
-  module _ (i : AreInRound net arrivals p) where
+module _ (net : Net) (network : IsNetwork net) (arrivals : Amounts) (h : List ℕ) (plans : List PlanRecord) (p : Parts) where
+  module _ (i : AreInRound net arrivals h plans p) where
     -- a node that plays wants its next step
-    plays-wants : (n : ℕ) (a : Acting) → Plays net arrivals i.heard i.made p.round (count n i.part) n a → a.want ≡ wanted_step (slice_get (board_steps net n) (count n i.part))
+    pub plays-wants : (n : ℕ) (a : Acting) → Plays net arrivals i.heard i.made p.round (count n i.part) n a → a.want ≡ wanted_step (slice_get (board_steps net n) (count n i.part))
     plays-wants n a plays = elim plays.stage [
       | inl x ↦ x.listens.want ∙ reading-next (heard_links net n) (count n i.part) x.more ∙ sym (ap wanted_step (read-step net n (count n i.part) x.more))
       | inr x ↦
@@ -92,7 +93,7 @@ module _ (net : Net) (network : IsNetwork net) (arrivals : Amounts) (p : Parts) 
       | inr past ↦ absurd (more (plays-wants n a plays ∙ ap wanted_step (slice_get_past (board_steps net n) (count n i.part) past)))
     ]
 
-    abbrev under-way : (n : ℕ) → count n i.part < length (board_steps net n) → IsUnderWay (board_steps net) net.run.rounds p.round p.history.items
+    abbrev under-way : (n : ℕ) → count n i.part < length (board_steps net n) → IsUnderWay (board_steps net) net.run.rounds p.round h
     under-way n fewer = record {
       early = i.early;
       part = i.part;
@@ -108,7 +109,7 @@ module _ (net : Net) (network : IsNetwork net) (arrivals : Amounts) (p : Parts) 
       fewer-there : count open_node.node i.part < length (board_steps net open_node.node)
       fewer-there = (let there = open_node.there in open-fewer open_node.node (get_or p.actors.all.items open_node.node d) (i.plays open_node.node d (omega (arith, i.all))) (open_node.wants d))
 
-      round-wanted : (n : ℕ) (a : Acting) → n < length net.node_names → a ≡ get_or p.actors.all.items n a → IsWanted net p.history.items n a.want
+      round-wanted : (n : ℕ) (a : Acting) → n < length net.node_names → a ≡ get_or p.actors.all.items n a → IsWanted net h n a.want
       round-wanted n a below is = record {
         done = p.round;
         way = under-way open_node.node fewer-there;
@@ -118,17 +119,17 @@ module _ (net : Net) (network : IsNetwork net) (arrivals : Amounts) (p : Parts) 
       }
 
       -- not all rounds are done
-      pub round-lawless : IsLawful net p.history.items → ⊥
-      round-lawless lawful = (let less = i.below in let e = all-done (board_steps net) net.run.rounds p.round p.history.items (under-way open_node.node fewer-there) lawful in omega arith)
+      pub round-lawless : IsLawful net h → ⊥
+      round-lawless lawful = (let less = i.below in let e = all-done (board_steps net) net.run.rounds p.round h (under-way open_node.node fewer-there) lawful in omega arith)
 
-  module _ (b : AreBetween net arrivals p) (last : p.round ≡ net.run.rounds) where
-    over-wanted : (n : ℕ) (a : Acting) → n < length net.node_names → a ≡ get_or p.actors.all.items n a → IsWanted net p.history.items n a.want
+  module _ (b : AreBetween net arrivals h plans p) (last : p.round ≡ net.run.rounds) where
+    over-wanted : (n : ℕ) (a : Acting) → n < length net.node_names → a ≡ get_or p.actors.all.items n a → IsWanted net h n a.want
     over-wanted n a below is = record {
       done = p.round;
       way = record {
-        early = p.history.items;
+        early = h;
         part = [];
-        whole = sym (append-nil p.history.items);
+        whole = sym (append-nil h);
         rounds_done = b.rounds_done;
         within = λ m. omega arith;
         unfinished = λ less. absurd (omega arith);
@@ -140,37 +141,37 @@ module _ (net : Net) (network : IsNetwork net) (arrivals : Amounts) (p : Parts) 
           ∙ sym (ap (λ t. cond t Done (wanted_step (slice_get (board_steps net n) 0))) (eq-eqb p.round net.run.rounds last));
     }
 
-    pub over-lawful : IsLawful net p.history.items
-    over-lawful = subst (λ r. HasRounds (board_steps net) r p.history.items) last b.rounds_done
+    pub over-lawful : IsLawful net h
+    over-lawful = subst (λ r. HasRounds (board_steps net) r h) last b.rounds_done
 
   -- what a node of a core wants
-  pub is-wanted : AreGoing net arrivals p → (n : ℕ) (a : Acting) → n < length net.node_names → a ≡ get_or p.actors.all.items n a → IsWanted net p.history.items n a.want
+  pub is-wanted : AreGoing net arrivals h plans p → (n : ℕ) (a : Acting) → n < length net.node_names → a ≡ get_or p.actors.all.items n a → IsWanted net h n a.want
   is-wanted going n a below is = elim going [
     | inl both ↦ round-wanted both.0 both.1 a n a below is
     | inr both ↦ over-wanted both.0 both.1 n a below is
   ]
 
   -- all rounds are done exactly where the history is lawful
-  pub going-over : (d : Acting) → AreGoing net arrivals p → p.round ≡ net.run.rounds → IsLawful net p.history.items
+  pub going-over : (d : Acting) → AreGoing net arrivals h plans p → p.round ≡ net.run.rounds → IsLawful net h
   going-over d going last = elim going [
     | inl both ↦ absurd (let less = both.0.below in omega arith)
     | inr both ↦ over-lawful both.0 both.1
   ]
 
-  pub going-last : (d : Acting) → AreGoing net arrivals p → IsLawful net p.history.items → p.round ≡ net.run.rounds
+  pub going-last : (d : Acting) → AreGoing net arrivals h plans p → IsLawful net h → p.round ≡ net.run.rounds
   going-last d going lawful = elim going [
     | inl both ↦ absurd (round-lawless both.0 both.1 d lawful)
     | inr both ↦ both.1
   ]
 
   -- where not all are done, the core is in a round
-  pub going-in : AreGoing net arrivals p → p.round ≢ net.run.rounds → AreInRound net arrivals p
+  pub going-in : AreGoing net arrivals h plans p → p.round ≢ net.run.rounds → AreInRound net arrivals h plans p
   going-in going other = elim going [
     | inl both ↦ both.0
     | inr both ↦ absurd (other both.1)
   ]
 
-  pub going-there : AreGoing net arrivals p → (n : ℕ) → n < length net.node_names → n < length p.actors.all.items
+  pub going-there : AreGoing net arrivals h plans p → (n : ℕ) → n < length net.node_names → n < length p.actors.all.items
   going-there going n below = elim going [
     | inl both ↦ omega (arith, both.0.all)
     | inr both ↦ omega (arith, both.0.all)

@@ -1,3 +1,4 @@
 pub mod Acts
 pub mod Cores
 pub mod States
+pub mod TurnRuns

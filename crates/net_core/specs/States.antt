@@ -1,26 +1,30 @@
--- No public clause names these: what a core keeps between two steps.
-use Rattle.std.specs.Prelude.{◌≡◌, ◌≢◌, ℕ, Bool, false, ◌+◌, ◌-◌, ◌*◌, ◌<◌, ◌≤◌, ◌⊎◌, List, [], ◌∷◌, ◌++◌, Some, drop, length, slice_index_or}
+-- No public clause names these: what is so of the parts of a run between two steps, and what a core keeps beside them.
+use Rattle.std.specs.Prelude.{◌≡◌, ◌≢◌, ℕ, Bool, true, false, ◌+◌, ◌-◌, ◌*◌, ◌<◌, ◌≤◌, ◌⊎◌, List, [], ◌∷◌, ◌++◌, Some, count_by, drop, length, replicate, slice_index_or, slice_set, vec_capacity}
+use Rattle.std.specs.List.{concat}
 use Rattle.std.specs.Global.{Vec}
 use Rattle.arrivals.specs.Amounts.{Amounts, AreArrivals, arriving_of}
 use Rattle.board_model.specs.declared.boards.Heard.{Heard}
 use Rattle.control_flow.specs.Greens.{end_of}
-use Rattle.histories.specs.Histories.{count, version_at, HasRounds}
+use Rattle.histories.specs.Histories.{count, turns, version_at, HasRounds}
 use Rattle.histories.specs.Steps.{board_steps}
 use Rattle.intersection_actor.specs.Acting.{Acting, reading}
 use Rattle.intersection_actor.specs.Commits.{Commitment, phases_of, record_of}
 use Rattle.intersection_actor.specs.Rounds.{IsOf}
 use Rattle.intersection_actor.specs.declared.records.Want.{Want}
-use Rattle.intersection_actor.specs.declared.records.Want.TheVariants.{Publish, Done}
+use Rattle.intersection_actor.specs.declared.records.Want.TheVariants.{Read, Commit, Publish, Done}
 use Rattle.intersection_actor.specs.declared.records.PlanRecord.{PlanRecord}
 use Rattle.net_parts.specs.Numbers.{Net}
 use Rattle.net_parts.specs.Outline.{link_at}
 use Rattle.net_simulator.specs.Worlds.{WorldState, Stands}
 use Rattle.road_net.specs.Network.{heard_links, told_links}
-use Rattle.runs.specs.Runs.{AllCommit, Commits, HearAlong, forecast_at, line_before, sensed_in, shown_by}
+use Rattle.runs.specs.Runs.{AllCommit, Commits, HearAlong, forecast_at, line_before, plans_of, sensed_in, shown_by}
 use Rattle.runs.specs.Ending.{HasCapacity}
 use Rattle.runs.specs.declared.run_records.EmptyRecord.{EmptyRecord}
-use Rattle.runs.specs.Resting.{HasPlans, Rests}
+use Rattle.runs.specs.Resting.{Rests}
+use Rattle.runs.specs.Tallies.{IsTally, IsTallyOf}
+use Rattle.runs.specs.declared.plan_tallies.PlanTally.{PlanTally}
 use Rattle.net_core.specs.declared.parts.Board.{Board}
+use Rattle.net_core.specs.declared.parts.Kept.{Kept}
 use Rattle.net_core.specs.declared.parts.Parts.{Parts}
 
 -- with these links yet to tell, a node publishes on the first; with none, it is done
@@ -75,18 +79,17 @@ pub record HasBoards (net : Net) (made : ℕ → ℕ → Commitment) (history : 
   pub forecasts : (link from to : ℕ) (d : Board) → (link_at net link).from ≡ Some from → (link_at net link).to ≡ Some to → (slice_index_or boards link d).forecast ≡ forecast_at net made link (version_at (board_steps net) history link (length history))
 
 -- What holds of a run whose first rounds are done, whatever its nodes do in the next: their commits, what was heard along the
--- history, the boards, the world at the begin of the next round, and the plans of the rounds that are done, in a list with capacity
--- for those of all.
-pub record IsRunning (net : Net) (arrivals : Amounts) (heard : ℕ → ℕ → List Heard) (made : ℕ → ℕ → Commitment) (history : List ℕ) (done : ℕ) (boards : List Board) (world : WorldState) (plans : Vec PlanRecord) : Type 0 where
+-- history, the boards, the world at the begin of the next round, and the plans of the rounds that are done.
+pub record IsRunning (net : Net) (arrivals : Amounts) (heard : ℕ → ℕ → List Heard) (made : ℕ → ℕ → Commitment) (history : List ℕ) (done : ℕ) (boards : List Board) (world : WorldState) (plans : List PlanRecord) : Type 0 where
   pub commits : AllCommit net (arriving_of arrivals) heard made done
   pub along : HearAlong net history heard made
   pub boards_are : HasBoards net made history boards
   pub second : world.second ≡ done * net.run.step
   pub stands : Stands net (arriving_of arrivals) (shown_by net made) world
-  pub planned : HasPlans net heard made done plans
+  pub planned : plans ≡ plans_of net heard made done
 
 -- Within a round: `round` rounds are done, and of the next one a part; each node has played as much of it as it stands in it.
-pub record InRound (net : Net) (arrivals : Amounts) (history : List ℕ) (round : ℕ) (actors : List Acting) (boards : List Board) (world : WorldState) (plans : Vec PlanRecord) : Type 0 where
+pub record InRound (net : Net) (arrivals : Amounts) (history : List ℕ) (round : ℕ) (actors : List Acting) (boards : List Board) (world : WorldState) (plans : List PlanRecord) : Type 0 where
   pub heard : ℕ → ℕ → List Heard
   pub made : ℕ → ℕ → Commitment
   pub early : List ℕ
@@ -101,7 +104,7 @@ pub record InRound (net : Net) (arrivals : Amounts) (history : List ℕ) (round 
   pub plays : (node : ℕ) (d : Acting) → node < length net.node_names → Plays net arrivals heard made round (count node part) node (slice_index_or actors node d)
 
 -- Between two rounds: `round` are done, and each node rests.
-pub record Between (net : Net) (arrivals : Amounts) (history : List ℕ) (round : ℕ) (actors : List Acting) (boards : List Board) (world : WorldState) (plans : Vec PlanRecord) : Type 0 where
+pub record Between (net : Net) (arrivals : Amounts) (history : List ℕ) (round : ℕ) (actors : List Acting) (boards : List Board) (world : WorldState) (plans : List PlanRecord) : Type 0 where
   pub heard : ℕ → ℕ → List Heard
   pub made : ℕ → ℕ → Commitment
   pub rounds_done : HasRounds (board_steps net) round history
@@ -112,7 +115,7 @@ pub record Between (net : Net) (arrivals : Amounts) (history : List ℕ) (round 
   pub rests : (node : ℕ) (d : Acting) → node < length net.node_names → Rests net made round node (slice_index_or actors node d)
 
 -- A round begins: the nodes before this one have begun it, and the others rest.
-pub record Begins (net : Net) (arrivals : Amounts) (history : List ℕ) (round : ℕ) (actors : List Acting) (boards : List Board) (world : WorldState) (plans : Vec PlanRecord) (first : ℕ) : Type 0 where
+pub record Begins (net : Net) (arrivals : Amounts) (history : List ℕ) (round : ℕ) (actors : List Acting) (boards : List Board) (world : WorldState) (plans : List PlanRecord) (first : ℕ) : Type 0 where
   pub heard : ℕ → ℕ → List Heard
   pub made : ℕ → ℕ → Commitment
   pub rounds_done : HasRounds (board_steps net) round history
@@ -129,32 +132,35 @@ pub record IsOpen (actors : List Acting) : Type 0 where
   pub there : node < length actors
   pub wants : (d : Acting) → (slice_index_or actors node d).want ≢ Done
 
--- A core that is not spent is in a round in which some node wants something, or after the last round.
-abbrev pub Goes : Net → Amounts → List ℕ → ℕ → List Acting → List Board → WorldState → Vec PlanRecord → Type 0
-Goes net arrivals history round actors boards world plans =
-    (InRound net arrivals history round actors boards world plans × IsOpen actors) ⊎ (Between net arrivals history round actors boards world plans × (round ≡ net.run.rounds))
-
 -- each node is done
 abbrev pub AllDone : List Acting → Type 0
 AllDone actors = (node : ℕ) (d : Acting) → node < length actors → (slice_index_or actors node d).want ≡ Done
 
--- what is so of the parts of a core: within a round, between two, and as one begins
-abbrev pub AreInRound : Net → Amounts → Parts → Type 0
-AreInRound net arrivals p = InRound net arrivals p.history.items p.round p.actors.all.items p.boards.items p.world p.plans
+-- Below, `history` has the nodes that have done board steps, and `plans` the plans of the rounds that are done. A run may keep neither.
 
-abbrev pub AreBetween : Net → Amounts → Parts → Type 0
-AreBetween net arrivals p = Between net arrivals p.history.items p.round p.actors.all.items p.boards.items p.world p.plans
+-- what is so of the parts of a run: within a round, between two, and as one begins
+abbrev pub AreInRound : Net → Amounts → List ℕ → List PlanRecord → Parts → Type 0
+AreInRound net arrivals history plans p = InRound net arrivals history p.round p.actors.all.items p.boards.items p.world plans
 
-abbrev pub AreBeginning : Net → Amounts → Parts → ℕ → Type 0
-AreBeginning net arrivals p first = Begins net arrivals p.history.items p.round p.actors.all.items p.boards.items p.world p.plans first
+abbrev pub AreBetween : Net → Amounts → List ℕ → List PlanRecord → Parts → Type 0
+AreBetween net arrivals history plans p = Between net arrivals history p.round p.actors.all.items p.boards.items p.world plans
 
--- within a round after this history
-abbrev pub AreAfter : Net → Amounts → List ℕ → Parts → Type 0
-AreAfter net arrivals history p = InRound net arrivals history p.round p.actors.all.items p.boards.items p.world p.plans
+abbrev pub AreBeginning : Net → Amounts → List ℕ → List PlanRecord → Parts → ℕ → Type 0
+AreBeginning net arrivals history plans p first = Begins net arrivals history p.round p.actors.all.items p.boards.items p.world plans first
 
--- and between two steps of a core that is not spent
-abbrev pub AreGoing : Net → Amounts → Parts → Type 0
-AreGoing net arrivals p = Goes net arrivals p.history.items p.round p.actors.all.items p.boards.items p.world p.plans
+-- between two steps of a run: within a round in which some node wants something, or after the last round
+abbrev pub AreGoing : Net → Amounts → List ℕ → List PlanRecord → Parts → Type 0
+AreGoing net arrivals history plans p = (AreInRound net arrivals history plans p × IsOpen p.actors.all.items) ⊎ (AreBetween net arrivals history plans p × (p.round ≡ net.run.rounds))
+
+-- the parts are within a round, between two, or as one begins, after some history, which need not be kept
+abbrev pub ArePlaying : Net → Amounts → Parts → Type 0
+ArePlaying net arrivals p = (history : List ℕ) × (plans : List PlanRecord) × AreInRound net arrivals history plans p
+
+abbrev pub AreResting : Net → Amounts → Parts → Type 0
+AreResting net arrivals p = (history : List ℕ) × (plans : List PlanRecord) × AreBetween net arrivals history plans p
+
+abbrev pub AreStarting : Net → Amounts → Parts → ℕ → Type 0
+AreStarting net arrivals p first = (history : List ℕ) × (plans : List PlanRecord) × AreBeginning net arrivals history plans p first
 
 -- a node wants this, or something
 abbrev pub Wants : Parts → ℕ → Want → Type 0
@@ -163,24 +169,87 @@ Wants p node want = (d : Acting) → (slice_index_or p.actors.all.items node d).
 abbrev pub WantsMore : Parts → ℕ → Type 0
 WantsMore p node = (d : Acting) → (slice_index_or p.actors.all.items node d).want ≢ Done
 
+-- one actor has changed, that of a node
+abbrev pub HasChanged : ℕ → List Acting → List Acting → Type 0
+HasChanged node old new = (actor : Acting) × (new ≡ slice_set old node actor)
+
+-- whether something is wanted, and how many actors want something
+abbrev pub is_busy : Want → Bool
+is_busy Done = false
+is_busy (Read link) = true
+is_busy Commit = true
+is_busy (Publish link) = true
+
+abbrev pub busy_count : List Acting → ℕ
+busy_count actors = count_by (λ (a : Acting). is_busy a.want) actors
+
 -- a board for each of `links` links, on which nothing is published
 pub record AreBlank (links : ℕ) (boards : List Board) : Type 0 where
   pub all : length boards ≡ links
   pub versions : (link : ℕ) (d : Board) → link < links → (slice_index_or boards link d).version ≡ 0
   pub forecasts : (link : ℕ) (d : Board) → link < links → (slice_index_or boards link d).forecast ≡ []
 
--- the parts of a core before the first round
+-- the parts of a run before the first round
 pub record AreAtFirst (net : Net) (arrivals : Amounts) (p : Parts) : Type 0 where
-  pub between : AreBetween net arrivals p
-  pub history : p.history.items ≡ []
+  pub between : AreBetween net arrivals [] [] p
   pub round : p.round ≡ 0
 
+-- A core has capacity for the plans of all rounds.
+abbrev pub HasCapacityForAll : Net → Kept → Type 0
+HasCapacityForAll net kept = net.run.rounds * length net.node_names ≤ vec_capacity kept.plans
+
+-- What a core keeps between two rounds: its history and plans are those of its parts, and it has that capacity.
+pub record IsResting (net : Net) (arrivals : Amounts) (p : Parts) (kept : Kept) : Type 0 where
+  pub between : AreBetween net arrivals kept.history.items kept.plans.items p
+  pub capacity : HasCapacityForAll net kept
+
+-- What a core keeps within a round: its history and plans are those of its parts, it has that capacity, and it knows how many
+-- nodes want something.
+pub record IsPlaying (net : Net) (arrivals : Amounts) (p : Parts) (kept : Kept) : Type 0 where
+  pub in_round : AreInRound net arrivals kept.history.items kept.plans.items p
+  pub capacity : HasCapacityForAll net kept
+  pub busy : kept.busy ≡ busy_count p.actors.all.items
+
+-- What a core keeps between two steps, in a round in which some node wants something, or after the last round.
+pub record IsGoing (net : Net) (arrivals : Amounts) (p : Parts) (kept : Kept) : Type 0 where
+  pub going : AreGoing net arrivals kept.history.items kept.plans.items p
+  pub capacity : HasCapacityForAll net kept
+  pub busy : p.round ≢ net.run.rounds → kept.busy ≡ busy_count p.actors.all.items
+
 -- A core at rest: its arrivals are those of its network, and where it is not spent it can go on.
-pub record IsSound (net : Net) (arrivals : Amounts) (p : Parts) (spent : Bool) : Type 0 where
+pub record IsSound (net : Net) (arrivals : Amounts) (p : Parts) (kept : Kept) (spent : Bool) : Type 0 where
   pub enter : AreArrivals net arrivals
-  pub going : spent ≡ false → AreGoing net arrivals p
+  pub going : spent ≡ false → IsGoing net arrivals p kept
 
 -- and with the lists for the timelines and totals of its record
-pub record IsReady (net : Net) (arrivals : Amounts) (p : Parts) (spent : Bool) (empty : EmptyRecord) : Type 0 where
-  pub sound : IsSound net arrivals p spent
+pub record IsReady (net : Net) (arrivals : Amounts) (p : Parts) (kept : Kept) (spent : Bool) (empty : EmptyRecord) : Type 0 where
+  pub sound : IsSound net arrivals p kept spent
   pub capacity : HasCapacity net empty
+
+-- ---- the turn order, in which no history and no plan is kept
+
+-- the history of the first rounds of the turn order
+abbrev pub turns_of : Net → ℕ → List ℕ
+turns_of net rounds = concat (replicate rounds (turns (board_steps net) (length net.node_names)))
+
+-- within a round after this history, in which a node has done as many rounds as are done, and nothing of this one
+pub record IsUnbegun (net : Net) (arrivals : Amounts) (node : ℕ) (history : List ℕ) (plans : List PlanRecord) (p : Parts) : Type 0 where
+  pub in_round : AreInRound net arrivals history plans p
+  pub counted : count node history ≡ p.round * length (board_steps net node)
+
+-- the turn of a node comes, after some history, which need not be kept
+abbrev pub IsAtTurn : Net → Amounts → ℕ → Parts → Type 0
+IsAtTurn net arrivals node p = (history : List ℕ) × (plans : List PlanRecord) × IsUnbegun net arrivals node history plans p
+
+-- A list that is empty, with capacity for a plan of each node.
+pub record IsBlank (net : Net) (planned : Vec PlanRecord) : Type 0 where
+  pub none : planned.items ≡ []
+  pub capacity : length net.node_names ≤ vec_capacity planned
+
+-- The first rounds of the turn order are done, and their plans are counted.
+pub record AreTurned (net : Net) (arrivals : Amounts) (rounds : ℕ) (p : Parts) (tally : PlanTally) : Type 0 where
+  pub plans : List PlanRecord
+  pub between : AreBetween net arrivals (turns_of net rounds) plans p
+  pub round : p.round ≡ rounds
+  pub counted : IsTallyOf plans tally
+  pub bounds : IsTally tally

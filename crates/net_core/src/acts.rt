@@ -1,10 +1,11 @@
 //! What one node does: it begins a round, reads and publishes; and it plans as soon as it has read all.
-ghost use Rattle.std.specs.Prelude.{◌≡◌, ℕ, ◌+◌, ◌*◌, ◌<◌, List, OnOk, length};
+ghost use Rattle.std.specs.Prelude.{◌≡◌, ℕ, ◌+◌, ◌*◌, ◌<◌, ◌≤◌, List, OnOk, length};
 ghost use Rattle.clusters.specs.Windows.{counts_of};
 ghost use Rattle.control_flow.specs.Greens.{end_of};
 ghost use Rattle.control_flow.specs.declared.greens.Green.{Green};
 ghost use Rattle.intersection_actor.specs.Acting.{begun, reading, tells_from, with_heard};
 ghost use Rattle.intersection_actor.specs.Rounds.{IsOf};
+ghost use Rattle.net_parts.specs.Limits.{most_rounds};
 ghost use Rattle.net_core.specs.Acts.{HasTold, Settles};
 ghost use Rattle.net_simulator.specs.Flow.{cumulative_under};
 ghost use Rattle.net_simulator.specs.Senses.{sense};
@@ -105,7 +106,7 @@ pub(crate) fn tell(
 ) -> Result<(), AllocError>
     requires of { IsOf net.now actor.old }
     requires want { actor.old.want ≡ Want.Publish link }
-    requires below { board.old.version < 1000 }
+    requires below { board.old.version ≤ most_rounds }
     ensures told { OnOk result (HasTold (tells_from net.now actor.old.node (link + 1)) actor.old actor.new) }
     ensures version { OnOk result (board.new.version ≡ board.old.version + 1) }
     ensures forecast { OnOk result (board.new.forecast

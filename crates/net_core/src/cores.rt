@@ -1,8 +1,9 @@
 //! A run under way.
 use crate::faults::StepFault;
 use crate::first_parts::parts_of;
-use crate::parts::Parts;
-use crate::stepping::{begin_round, go_on, is_done, play};
+use crate::keeping::{go_on, nothing_kept, open_round, play};
+use crate::parts::{Kept, Parts};
+use crate::stepping::is_done;
 use arrivals::Arrivals;
 use foundation::threads::CrossesThreads;
 use intersection_actor::Want;
@@ -21,6 +22,7 @@ pub struct Core<'a> {
     net: &'a Network,
     arrivals: &'a Arrivals,
     parts: Parts,
+    kept: Kept,
     /// The lists for the timelines and the totals of the run.
     empty: EmptyRecord,
     /// Whether an earlier step ran out of memory.
@@ -37,11 +39,11 @@ impl<'a> Model for Core<'a> {
     ghost view = { λ core. record {
       net = core.net.now;
       arrivals = core.arrivals.now;
-      steps = core.parts.history.items;
+      steps = core.kept.history.items;
       spent = core.spent;
     } };
 
-    ghost invariant = { λ core. IsReady core.net.now core.arrivals.now core.parts core.spent core.empty };
+    ghost invariant = { λ core. IsReady core.net.now core.arrivals.now core.parts core.kept core.spent core.empty };
 }
 
 impl<'a> CrossesThreads for Core<'a> {}
@@ -71,12 +73,14 @@ impl<'a> Core<'a> {
     {
         let empty = empty_record(alloc, net)?;
         let mut parts = parts_of(alloc, net)?;
-        begin_round(alloc, net, arrivals, &mut parts, planner)?;
-        go_on(alloc, net, arrivals, &mut parts, planner)?;
+        let mut kept = nothing_kept(alloc, net)?;
+        open_round(alloc, net, arrivals, &mut parts, &mut kept, planner)?;
+        go_on(alloc, net, arrivals, &mut parts, &mut kept, planner)?;
         Ok(Core {
             net,
             arrivals,
             parts,
+            kept,
             empty,
             spent: false,
         })
@@ -88,7 +92,7 @@ impl<'a> Core<'a> {
     pub fn steps(&self) -> &[u32]
         ensures { result.now ≡ self.now.steps }
     {
-        self.parts.history.as_slice()
+        self.kept.history.as_slice()
     }
 
     /// What a node wants to do next: nothing, where it has done its steps of this round, where all rounds are done, or where the
@@ -162,6 +166,7 @@ impl<'a> Core<'a> {
             self.arrivals,
             node,
             &mut self.parts,
+            &mut self.kept,
             planner,
         ) {
             Ok(()) => Ok(()),
@@ -185,15 +190,12 @@ impl<'a> Core<'a> {
         let Core {
             net,
             parts,
+            kept,
             empty,
             ..
         } = self;
-        let Parts {
-            actors,
-            world,
-            plans,
-            ..
-        } = parts;
+        let Parts { actors, world, .. } = parts;
+        let Kept { plans, .. } = kept;
         record_of(net, plans, actors, &world, empty)
     }
 }

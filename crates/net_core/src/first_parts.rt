@@ -1,4 +1,4 @@
-//! What a core is made of at first.
+//! What a run is made of at first.
 ghost use Rattle.std.specs.Prelude.{◌≡◌, ℕ, ◌<◌, [], IfOk, length};
 ghost use Rattle.arrivals.specs.Amounts.{Amounts};
 ghost use Rattle.net_core.specs.States.{AreAtFirst, AreBlank};
@@ -7,10 +7,10 @@ use crate::parts::{Board, Parts};
 use board_model::Forecast;
 use net_simulator::World;
 use road_net::{Network, law_of_network};
-use runs::{actors_of, empty_plans};
+use runs::actors_of;
 use std::alloc::{AllocError, Global};
 
-/// The parts of a core before the first round.
+/// The parts of a run before the first round.
 pub(crate) fn parts_of(alloc: Global, net: &Network) -> Result<Parts, AllocError>
     ensures first { (arrivals : Amounts) → IfOk result (AreAtFirst net.now arrivals) }
     ensures below { IfOk result (λ parts. parts.round < net.now.run.rounds) }
@@ -19,14 +19,11 @@ pub(crate) fn parts_of(alloc: Global, net: &Network) -> Result<Parts, AllocError
     let actors = actors_of(alloc, net)?;
     let boards = boards_of(alloc, net)?;
     let world = World::new(alloc, net)?;
-    let plans = empty_plans(alloc, net)?;
     Ok(Parts {
-        history: Vec::new(alloc),
         round: 0,
         actors,
         boards,
         world,
-        plans,
     })
 }
 

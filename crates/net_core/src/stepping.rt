@@ -1,12 +1,16 @@
-//! How the rounds of a core begin and end, and how a node does its next board step.
-ghost use Rattle.std.specs.Prelude.{◌≡◌, ◌≢◌, ℕ, ◌+◌, ◌<◌, ◌++◌, ◌∷◌, [], ◌↔◌, IsTrue, false, OnOk, OnErr, length};
+//! How the rounds of a run begin and end, and how a node does its next board step. Neither keeps the history or the plans.
+ghost use Rattle.std.specs.Prelude.{◌≡◌, ℕ, ◌+◌, ◌<◌, ◌≤◌, ◌++◌, ◌∷◌, [], ◌↔◌, All, List, IsTrue, OnOk, length, vec_capacity, vec_len};
 ghost use Rattle.arrivals.specs.Amounts.{AreArrivals};
-ghost use Rattle.net_core.specs.States.{AllDone, AreAfter, AreBeginning, AreBetween, AreGoing, AreInRound, IsOpen, Wants, WantsMore};
+ghost use Rattle.intersection_actor.specs.declared.records.PlanRecord.{PlanRecord};
+ghost use Rattle.net_core.specs.States.{AllDone, AreBeginning, AreBetween, AreInRound, ArePlaying, AreResting, AreStarting, HasChanged};
+ghost use Rattle.net_core.specs.States.{Wants, WantsMore};
+ghost use Rattle.runs.specs.Ending.{records_in};
+ghost use Rattle.schedule_meaning.specs.Best.{IsLeast};
 
 use crate::acts::{begin, read, tell};
 use crate::parts::Parts;
 use arrivals::Arrivals;
-use intersection_actor::{Actor, Want};
+use intersection_actor::{PlanRecord, Want};
 use road_net::{Network, law_of_network};
 use schedule_meaning::Planner;
 use std::alloc::{AllocError, Global};
@@ -21,10 +25,11 @@ fn begin_node<P: Planner>(
     planner: &mut P,
 ) -> Result<(), AllocError>
     requires arrivals { AreArrivals net.now arrivals.now }
-    requires begins { AreBeginning net.now arrivals.now parts.old node }
+    requires begins { AreStarting net.now arrivals.now parts.old node }
     requires node { node < length net.now.node_names }
-    ensures begins { OnOk result (AreBeginning net.now arrivals.now parts.new (node + 1)) }
-    ensures history { parts.new.history ≡ parts.old.history }
+    ensures begins { (history : List ℕ) (plans : List PlanRecord)
+        → AreBeginning net.now arrivals.now history plans parts.old node
+        → OnOk result (AreBeginning net.now arrivals.now history plans parts.new (node + 1)) }
     ensures round { parts.new.round ≡ parts.old.round }
 {
     law_of_network(net);
@@ -48,10 +53,11 @@ pub(crate) fn begin_round<P: Planner>(
     planner: &mut P,
 ) -> Result<(), AllocError>
     requires arrivals { AreArrivals net.now arrivals.now }
-    requires between { AreBetween net.now arrivals.now parts.old }
+    requires resting { AreResting net.now arrivals.now parts.old }
     requires round { parts.old.round < net.now.run.rounds }
-    ensures in_round { OnOk result (AreInRound net.now arrivals.now parts.new) }
-    ensures history { parts.new.history ≡ parts.old.history }
+    ensures in_round { (history : List ℕ) (plans : List PlanRecord)
+        → AreBetween net.now arrivals.now history plans parts.old
+        → OnOk result (AreInRound net.now arrivals.now history plans parts.new) }
     ensures round { parts.new.round ≡ parts.old.round }
 {
     for node in 0..net.nodes() {
@@ -60,60 +66,30 @@ pub(crate) fn begin_round<P: Planner>(
     Ok(())
 }
 
-/// The round is over: the world moves on, and what the nodes have planned goes to the plans of the run.
-fn end_round(net: &Network, arrivals: &Arrivals, parts: &mut Parts)
+/// The round is over: the world moves on, and what the nodes have planned goes to the end of these plans.
+pub(crate) fn end_round(
+    net: &Network,
+    arrivals: &Arrivals,
+    parts: &mut Parts,
+    plans: &mut Vec<PlanRecord>,
+)
     requires arrivals { AreArrivals net.now arrivals.now }
-    requires in_round { AreInRound net.now arrivals.now parts.old }
+    requires playing { ArePlaying net.now arrivals.now parts.old }
     requires done { AllDone parts.old.actors.all.items }
-    ensures between { AreBetween net.now arrivals.now parts.new }
-    ensures history { parts.new.history ≡ parts.old.history }
+    requires capacity { vec_len plans.old + length net.now.node_names ≤ vec_capacity plans.old }
+    ensures between { (history : List ℕ) (planned : List PlanRecord)
+        → AreInRound net.now arrivals.now history planned parts.old
+        → AreBetween net.now arrivals.now history (planned ++ records_in parts.old.actors.all.items) parts.new }
+    ensures plans { plans.new.items ≡ plans.old.items ++ records_in parts.old.actors.all.items }
+    ensures capacity { vec_capacity plans.old ≤ vec_capacity plans.new }
+    ensures count { length (records_in parts.old.actors.all.items) ≡ length net.now.node_names }
+    ensures least { All (λ plan. IsLeast plan.instance plan.answer) (records_in parts.old.actors.all.items) }
     ensures round { parts.new.round ≡ parts.old.round + 1 }
 {
     let step = net.run().step;
     parts.world.advance(net, &parts.actors, arrivals, step);
-    parts.actors.move_records(&mut parts.plans);
+    parts.actors.move_records(plans);
     parts.round += 1;
-}
-
-/// Ends the rounds that are over and begins the next ones, until a node wants something or all rounds are done.
-pub(crate) fn go_on<P: Planner>(
-    alloc: Global,
-    net: &Network,
-    arrivals: &Arrivals,
-    parts: &mut Parts,
-    planner: &mut P,
-) -> Result<(), AllocError>
-    requires arrivals { AreArrivals net.now arrivals.now }
-    requires in_round { AreInRound net.now arrivals.now parts.old }
-    ensures going { OnOk result (AreGoing net.now arrivals.now parts.new) }
-    ensures history { parts.new.history ≡ parts.old.history }
-{
-    'rounds: while are_all_done(parts.actors.all.as_slice()) {
-        end_round(net, arrivals, parts);
-        if parts.round == net.run().rounds {
-            return Ok(());
-        }
-        begin_round(alloc, net, arrivals, parts, planner)?;
-    }
-    Ok(())
-}
-
-/// Whether each node is done. The last one, which in turn order is done last, is asked first.
-fn are_all_done(actors: &[Actor]) -> bool
-    ensures done { IsTrue result → AllDone actors.now }
-    ensures more { result ≡ false → IsOpen actors.now }
-{
-    if let Some(last) = actors.last()
-        && !is_done(last.want())
-    {
-        return false;
-    }
-    for actor in actors {
-        if !is_done(actor.want()) {
-            return false;
-        }
-    }
-    true
 }
 
 /// Whether nothing is wanted.
@@ -136,11 +112,14 @@ fn read_board<P: Planner>(
     parts: &mut Parts,
     planner: &mut P,
 ) -> Result<(), AllocError>
-    requires in_round { AreInRound net.now arrivals.now parts.old }
+    requires playing { ArePlaying net.now arrivals.now parts.old }
     requires node { node < length net.now.node_names }
     requires want { Wants parts.old node (Want.Read link) }
-    ensures after { OnOk result (AreAfter net.now arrivals.now (parts.old.history.items ++ node ∷ []) parts.new) }
-    ensures history { parts.new.history ≡ parts.old.history }
+    ensures after { (history : List ℕ) (plans : List PlanRecord)
+        → AreInRound net.now arrivals.now history plans parts.old
+        → OnOk result (AreInRound net.now arrivals.now (history ++ node ∷ []) plans parts.new) }
+    ensures one { HasChanged node parts.old.actors.all.items parts.new.actors.all.items }
+    ensures round { parts.new.round ≡ parts.old.round }
 {
     law_of_network(net);
     read(
@@ -162,11 +141,14 @@ fn tell_board(
     link: u32,
     parts: &mut Parts,
 ) -> Result<(), AllocError>
-    requires in_round { AreInRound net.now arrivals.now parts.old }
+    requires playing { ArePlaying net.now arrivals.now parts.old }
     requires node { node < length net.now.node_names }
     requires want { Wants parts.old node (Want.Publish link) }
-    ensures after { OnOk result (AreAfter net.now arrivals.now (parts.old.history.items ++ node ∷ []) parts.new) }
-    ensures history { parts.new.history ≡ parts.old.history }
+    ensures after { (history : List ℕ) (plans : List PlanRecord)
+        → AreInRound net.now arrivals.now history plans parts.old
+        → OnOk result (AreInRound net.now arrivals.now (history ++ node ∷ []) plans parts.new) }
+    ensures one { HasChanged node parts.old.actors.all.items parts.new.actors.all.items }
+    ensures round { parts.new.round ≡ parts.old.round }
 {
     law_of_network(net);
     tell(
@@ -179,7 +161,7 @@ fn tell_board(
 }
 
 /// The node does its next board step.
-fn act<P: Planner>(
+pub(crate) fn act<P: Planner>(
     alloc: Global,
     net: &Network,
     arrivals: &Arrivals,
@@ -187,46 +169,18 @@ fn act<P: Planner>(
     parts: &mut Parts,
     planner: &mut P,
 ) -> Result<(), AllocError>
-    requires in_round { AreInRound net.now arrivals.now parts.old }
+    requires playing { ArePlaying net.now arrivals.now parts.old }
     requires node { node < length net.now.node_names }
     requires want { WantsMore parts.old node }
-    ensures after { OnOk result (AreAfter net.now arrivals.now (parts.old.history.items ++ node ∷ []) parts.new) }
-    ensures history { parts.new.history ≡ parts.old.history }
+    ensures after { (history : List ℕ) (plans : List PlanRecord)
+        → AreInRound net.now arrivals.now history plans parts.old
+        → OnOk result (AreInRound net.now arrivals.now (history ++ node ∷ []) plans parts.new) }
+    ensures one { HasChanged node parts.old.actors.all.items parts.new.actors.all.items }
+    ensures round { parts.new.round ≡ parts.old.round }
 {
     match parts.actors.all[node as usize].want() {
         Want::Read(link) => read_board(alloc, net, arrivals, node, link, parts, planner),
         Want::Publish(link) => tell_board(alloc, net, arrivals, node, link, parts),
         Want::Commit | Want::Done => unreachable!(),
-    }
-}
-
-/// The node does its next board step, and the history is one longer; then rounds that are over end and the next ones begin. Where
-/// memory runs out, the history stays.
-pub(crate) fn play<P: Planner>(
-    alloc: Global,
-    net: &Network,
-    arrivals: &Arrivals,
-    node: u32,
-    parts: &mut Parts,
-    planner: &mut P,
-) -> Result<(), AllocError>
-    requires arrivals { AreArrivals net.now arrivals.now }
-    requires in_round { AreInRound net.now arrivals.now parts.old }
-    requires node { node < length net.now.node_names }
-    requires want { WantsMore parts.old node }
-    ensures going { OnOk result (AreGoing net.now arrivals.now parts.new) }
-    ensures history { OnOk result (parts.new.history.items ≡ parts.old.history.items ++ node ∷ []) }
-    ensures refused { OnErr result (parts.new.history.items ≡ parts.old.history.items) }
-{
-    parts.history.reserve(1)?;
-    act(alloc, net, arrivals, node, parts, planner)?;
-    let before = parts.history.len();
-    parts.history.push_reserved(node);
-    match go_on(alloc, net, arrivals, parts, planner) {
-        Ok(()) => Ok(()),
-        Err(error) => {
-            parts.history.truncate(before);
-            Err(error)
-        }
     }
 }

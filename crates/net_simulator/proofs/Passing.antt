@@ -1,5 +1,6 @@
 -- A world that stands for its past stands for it one second later.
 use Rattle.std.proofs.Common.{◌≡◌, ◌≢◌, ℕ, zero, suc, ◌+◌, ◌-◌, ◌*◌, ◌%◌, ◌<◌, ◌≤◌, List, Option, Some, None, length, replicate, get_or, slice_index, slice_index_or, refl, sym, ap, subst, ◌∙◌, add-one, arith}
+use Rattle.net_parts.specs.Limits.{most_seconds}
 use Rattle.net_parts.specs.Numbers.{Net}
 use Rattle.net_parts.specs.Outline.{link_at, turns_at}
 use Rattle.road_net.specs.Joins.{split_of}
@@ -114,7 +115,7 @@ module _ (net : Net) (network : IsNetwork net) (arriving : ℕ → ℕ → ℕ) 
   room-leave rs1 others l h = omega (arith, waits-now rs1 others l h, waits-most net network moves past course arrivals w.second l h)
 
   -- what leaves in this second
-  pub leaves-now : (signs : List Sign) (since rs1 ready : List ℕ) (lv : ℕ → ℕ) → w.second < 18000 → ((n : ℕ) → n < length net.node_names → slice_index_or signs n Dark ≡ sign_at (lines n) w.second)
+  pub leaves-now : (signs : List Sign) (since rs1 ready : List ℕ) (lv : ℕ → ℕ) → w.second < most_seconds → ((n : ℕ) → n < length net.node_names → slice_index_or signs n Dark ≡ sign_at (lines n) w.second)
       → ((l : ℕ) → l < length net.link_names → slice_index since l ≡ lit_since (is_green net (signs_by lines) l) (w.second + 1))
       → ((l y : ℕ) → y % 128 ≢ w.second % 128 → cell rs1 l y ≡ cell w.recent l y)
       → ((l : ℕ) → l < length net.link_names → slice_index ready l ≡ waits_at net w.queues rs1 w.second l)
@@ -147,14 +148,14 @@ module _ (net : Net) (network : IsNetwork net) (arriving : ℕ → ℕ → ℕ) 
       let more = ap (total_arrived net arriving) (add-one w.second) in
       omega (arith, ap (λ (t : Totals). t.entered) stands.totals, ap (λ (t : Totals). t.left) stands.totals, gone-more net network moves past course w.second lv leaves, whole, more)
 
-  pub delay-most : w.totals.delay ≤ 11520000000000000
+  pub delay-most : w.totals.delay ≤ 1415577600000000000
   delay-most =
-      let each = total-le (delay net before w.second) (λ l. 36000000000000) (length net.link_names) (λ l h. omega (arith, delay-small net network arriving (signs_by lines) arrivals w.second l h, stands.by)) in
-      let all = total-of 36000000000000 (length net.link_names) in
+      let each = total-le (delay net before w.second) (λ l. 172800000000000) (length net.link_names) (λ l h. omega (arith, delay-small net network arriving (signs_by lines) arrivals w.second l h, stands.by)) in
+      let all = total-of 172800000000000 (length net.link_names) in
       let few = network.outline.link_count.1 in
       omega (arith, ap (λ (t : Totals). t.delay) stands.totals, each, all, few)
 
-  pub stands-next : (rs1 ready lv : List ℕ) (v : WorldState) → w.second < 18000 → v.second ≡ w.second + 1 → HasShape net v
+  pub stands-next : (rs1 ready lv : List ℕ) (v : WorldState) → w.second < most_seconds → v.second ≡ w.second + 1 → HasShape net v
       → ((n : ℕ) → n < length net.node_names → slice_index_or v.signs n Dark ≡ sign_at (lines n) w.second)
       → ((l : ℕ) → l < length net.link_names → slice_index v.since l ≡ lit_since (is_green net (signs_by lines) l) (w.second + 1))
       → IsStep net (arriving w.second) w.second rs1 ready lv w v → Stands net arriving (signs_by lines) v
@@ -193,7 +194,7 @@ module _ (net : Net) (network : IsNetwork net) (arriving : ℕ → ℕ → ℕ) 
       }
 
   -- a queue has stood for no longer than the world
-  pub standing-small : w.second < 18000 → (l : ℕ) → l < length net.link_names → slice_index w.stood l < 18000
+  pub standing-small : w.second < most_seconds → (l : ℕ) → l < length net.link_names → slice_index w.stood l < most_seconds
   standing-small early l h = omega (arith, stands.stood l h, stood-most net before w.second l)
 
   -- what the first n seconds can count

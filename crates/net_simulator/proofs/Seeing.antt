@@ -7,6 +7,7 @@ use Rattle.std.proofs.lemmas.List.FromFn.{length-map-range_with_len, sum_by-map-
 use Rattle.std.proofs.lemmas.List.Elements.{All-map, All-weaker}
 use Rattle.std.proofs.lemmas.List.Kept.{AllPairs-from_increasing}
 use Rattle.std.proofs.lemmas.List.Sums.{sum_by-cons, sum_by-take-le, sum-map}
+use Rattle.net_parts.specs.Limits.{most_seconds}
 use Rattle.net_parts.specs.Numbers.{Net}
 use Rattle.net_parts.specs.Outline.{link_at}
 use Rattle.road_net.specs.declared.senses.LinkSense.{LinkSense}
@@ -170,7 +171,7 @@ map-link net past n [] = refl
 map-link net past n (l ∷ ls) = ap (λ ks. l ∷ ks) (map-link net past n ls)
 
 -- what the definition gives is within the bounds of what a node sees
-pub are-sensed : (net : Net) (node n : ℕ) (past : ℕ → ℕ → Cumulative) → n ≤ 18000 → IsSound net past n → on_road net past n ≤ 2000000000 → All (λ l. l < length net.link_names) (entry_links net node) → IsStrictlyIncreasing (entry_links net node) → IsSensedOf net node (sense net past n node)
+pub are-sensed : (net : Net) (node n : ℕ) (past : ℕ → ℕ → Cumulative) → n ≤ most_seconds → IsSound net past n → on_road net past n ≤ 2000000000 → All (λ l. l < length net.link_names) (entry_links net node) → IsStrictlyIncreasing (entry_links net node) → IsSensedOf net node (sense net past n node)
 are-sensed net node n past early sound most below rising = record {
   now = early;
   links = map-link net past n (entry_links net node);

@@ -36,7 +36,7 @@ impl<'a> Lights for Lines<'a> {
     }
 }
 
-/// The world of a network that moved from second 0 by `seconds` seconds, up to second 18,000, under these timelines.
+/// The world of a network that moved from second 0 by `seconds` seconds, up to second 86,400, under these timelines.
 ///
 /// `Err`: out of memory.
 ///
@@ -58,7 +58,7 @@ pub fn play<'a>(
     Ok(world)
 }
 
-/// The second after the last round of a network's run, at most 18,000.
+/// The second after the last round of a network's run, at most 86,400.
 ///
 /// docs/RULES.md, "Run".
 pub fn end_of_run(net: &Network) -> u32

@@ -221,7 +221,7 @@ fn is_one_walked(links: &[Link]) -> bool
     links.iter().any(|link| link.walk.is_some())
 }
 
-/// What waits at the end of link `l` in a second below 18,000, in thousandths of a vehicle: its queue, and what entered it one
+/// What waits at the end of link `l` in a second below 86,400, in thousandths of a vehicle: its queue, and what entered it one
 /// travel time ago. `recent` has what entered each link in each of the last seconds (`rows`).
 ///
 /// docs/RULES.md, "World".

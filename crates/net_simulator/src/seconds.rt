@@ -1,6 +1,6 @@
 //! What happens in one second of the world.
 
-ghost use Rattle.std.specs.Prelude.{◌≡◌, ◌≢◌, ℕ, ◌+◌, ◌-◌, ◌*◌, ◌/◌, ◌%◌, ◌≤◌, ◌<◌, ◌^◌, Some, length, slice_index, slice_index_or};
+ghost use Rattle.std.specs.Prelude.{◌≡◌, ◌≢◌, ℕ, ◌+◌, ◌-◌, ◌*◌, ◌/◌, ◌%◌, ◌≤◌, ◌<◌, ◌^◌, Some, length, slice_index};
 ghost use Rattle.net_parts.specs.Limits.{most_seconds};
 ghost use Rattle.net_parts.specs.Outline.{link_at, turns_at};
 ghost use Rattle.arrivals.specs.Amounts.{arriving_of};
@@ -15,20 +15,8 @@ ghost use Rattle.road_net.specs.Totals.{total};
 use super::link_seconds::{Shown, is_open, outward, rate, waiting_amount};
 use super::rows;
 use super::totals::LinkTotals;
-use arrivals::Arrivals;
+use arrivals::{Arrivals, next_amount};
 use road_net::Network;
-
-/// What amounts that begin with that of link `first` have of link `l`; 0 where they have none.
-#[inline]
-fn amount_from(amounts: &[u32], first: u32, l: u32) -> u32
-    ensures before { l < first → result ≡ 0 }
-    ensures here { first ≤ l → result ≡ slice_index_or amounts.now (l - first) 0 }
-{
-    if l < first {
-        return 0;
-    }
-    amounts.get((l - first) as usize).copied().unwrap_or(0)
-}
 
 /// Begins a second: what comes from outside enters, and what reaches the ends of links joins their queues, which then are what waits there.
 /// Tells how much comes from outside.
@@ -50,11 +38,11 @@ pub(crate) fn arrive(
     ensures queues { (l : ℕ) → l < length net.now.link_names
         → slice_index queues.new l ≡ waits_at net.now queues.old recent.new second l }
 {
-    let first = arrivals.first_link();
-    let row = arrivals.in_second(second);
+    let mut coming = arrivals.in_second(second);
     let mut all = 0;
     for l in 0..net.links() {
-        let amount = amount_from(row, first, l);
+        let (amount, later) = next_amount(coming, l);
+        coming = later;
         rows::put(recent, l, second, amount);
         queues[l as usize] = waiting_amount(net, queues, recent, second, l);
         all += u64::from(amount);

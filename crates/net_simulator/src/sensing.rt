@@ -26,7 +26,7 @@ pub struct Sight<'a> {
     pub recent: &'a [u32],
     /// For how many seconds each queue has stood without a break.
     pub stood: &'a [u32],
-    /// The second, at most 18,000.
+    /// The second, at most 86,400.
     pub second: u32,
 }
 

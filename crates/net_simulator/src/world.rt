@@ -116,7 +116,7 @@ impl World {
         })
     }
 
-    /// The second up to which the world has moved, at most 18,000.
+    /// The second up to which the world has moved, at most 86,400.
     pub fn now(&self) -> u32
         ensures { result ≡ self.now.second }
     {
@@ -222,7 +222,7 @@ impl World {
         near_amount(&sight, link, gap)
     }
 
-    /// Moves by `seconds` seconds under these lights, up to second 18,000.
+    /// Moves by `seconds` seconds under these lights, up to second 86,400.
     ///
     /// docs/RULES.md, "World".
     pub fn advance<T: Lights>(

@@ -11,6 +11,7 @@ use Rattle.intersection_actor.specs.Rounds.{first_head}
 use Rattle.intersection_actor.proofs.ArrivalLaws.{window-soon}
 use Rattle.intersection_actor.proofs.RecallLaws.{head-round, lawful-round, length-round, plan-round}
 use Rattle.intersection_actor.proofs.ServedLaws.{greens-by, schedule-made}
+use Rattle.net_parts.specs.Limits.{most_seconds}
 use Rattle.net_parts.specs.Numbers.{Net}
 use Rattle.net_parts.specs.Outline.{plan_at}
 use Rattle.phase_plan.specs.Phases.{IsRing}
@@ -42,7 +43,7 @@ module _ (net : Net) (network : IsNetwork net) (node : ℕ) (below : node < leng
       let count = plan.count.0 in
       (rotation-next (plan_at net node) first_head 0 plan (record { is = record { phase = omega arith; begun = omega arith; within = omega arith }; since = omega arith; reach = omega arith }) (omega arith)).line
 
-  module _ (round : ℕ) (old : List Green) (sensed : Sensed) (heard : List Heard) (c : Commitment) (early : sensed.now ≤ 18000) (line : IsLine (plan_at net node) old) (is : IsCommit net node round old sensed heard c) where
+  module _ (round : ℕ) (old : List Green) (sensed : Sensed) (heard : List Heard) (c : Commitment) (early : sensed.now ≤ most_seconds) (line : IsLine (plan_at net node) old) (is : IsCommit net node round old sensed heard c) where
     look : net.run.look ≤ 180
     look = network.outline.run.look.1
 

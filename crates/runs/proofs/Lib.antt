@@ -1,5 +1,6 @@
 pub mod Agree
 pub mod Committed
+pub mod Delays
 pub mod CompleteLaws
 pub mod Expected
 pub mod Heard

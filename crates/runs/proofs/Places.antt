@@ -1,15 +1,16 @@
 -- The places of a lawful history: each step of a node in a round has one, and a version was published before it is read.
-use Rattle.std.proofs.Common.{◌≡◌, ℕ, zero, suc, ◌+◌, ◌-◌, ◌*◌, ◌/◌, ◌%◌, ◌<◌, ◌≤◌, Bool, true, false, cond, List, [], ◌∷◌, Some, length, map, take, drop, get_or, filter, refl, sym, ap, subst, ◌∙◌, inl, inr, arith, length-append, ne_eqb, eq-eqb}
+use Rattle.std.proofs.Common.{◌≡◌, ℕ, zero, suc, ◌+◌, ◌-◌, ◌*◌, ◌/◌, ◌%◌, ◌<◌, ◌≤◌, Bool, true, false, cond, List, [], ◌∷◌, Some, length, take, get_or, filter, refl, sym, ap, subst, ◌∙◌, inl, inr, arith, ne_eqb, eq-eqb}
 use Rattle.std.proofs.lemmas.Bool.{cases_eq, cases_lt, cases_Bool}
-use Rattle.std.proofs.lemmas.List.{take-take, take-append-drop, take_more, get_or_append_left, get_or-append_right, get_or-map, length-map}
+use Rattle.std.proofs.lemmas.List.{take_more}
 use Rattle.std.proofs.lemmas.Nat.{mod-mul-add, div-mul-add}
 use Rattle.net_parts.specs.Numbers.{Net}
 use Rattle.net_parts.specs.Outline.{link_at}
-use Rattle.road_net.specs.Network.{IsNetwork, heard_links, told_links}
+use Rattle.road_net.specs.Network.{IsNetwork, heard_links}
 use Rattle.histories.specs.Histories.{count, IsEntry, IsLawful, round_at, step_at, version_at}
 use Rattle.histories.specs.Steps.{board_steps, is_publish_of}
-use Rattle.histories.specs.declared.steps.BoardStep.{BoardStep}
 use Rattle.histories.specs.declared.steps.BoardStep.TheVariants.{Read, Publish}
+pub use Rattle.histories.proofs.Counts.{comes-first}
+pub use Rattle.histories.proofs.StepLaws.{read-first, read-step}
 use Rattle.histories.proofs.Counts.{count-append, count-one}
 use Rattle.histories.proofs.Entries.{entry}
 use Rattle.histories.proofs.Prefixes.{in-round}
@@ -39,55 +40,9 @@ stands net h round node k place small e =
       step_is = ap (λ n. get_or (board_steps net n) (count n (take place h) % length (board_steps net n)) (Read 0)) there ∙ ap (λ c. get_or (board_steps net node) (c % w) (Read 0)) e.counted ∙ ap (λ c. get_or (board_steps net node) c (Read 0)) (mod-mul-add round w k small);
     }
 
--- the steps of a node that are Reads come first
-pub read-step : (net : Net) (n k : ℕ) → k < length (heard_links net n) → get_or (board_steps net n) k (Read 0) ≡ Read (get_or (heard_links net n) k 0)
-read-step net n k inside =
-    get_or_append_left (map Read (heard_links net n)) (map Publish (told_links net n)) (Read 0) k (omega (arith, length-map (heard_links net n) Read))
-    ∙ get_or-map Read (heard_links net n) k 0 (Read 0) inside
-
--- and are steps of the node
+-- the steps of a node that are Reads are steps of the node
 pub first-small : (net : Net) (n k : ℕ) → k < length (heard_links net n) → k < length (board_steps net n)
 first-small net n k inside = omega (arith, step-count net n)
-
-link_of : BoardStep → ℕ
-link_of (Read l) = l
-link_of (Publish l) = l
-
-is_read : BoardStep → Bool
-is_read (Read l) = true
-is_read (Publish l) = false
-
-pub read-first : (net : Net) (n k l : ℕ) → k < length (board_steps net n) → get_or (board_steps net n) k (Read 0) ≡ Read l → (k < length (heard_links net n)) × (get_or (heard_links net n) k 0 ≡ l)
-unfolding link_of is_read
-read-first net n k l inside is = elim (cases_lt k (length (heard_links net n))) [
-  | inl first ↦ (first, ap link_of (sym (read-step net n k first) ∙ is))
-  | inr past ↦ absurd (
-      let reads : length (map Read (heard_links net n)) ≡ length (heard_links net n) = length-map (heard_links net n) Read in
-      let j : ℕ = k - length (map Read (heard_links net n)) in
-      let long = length-append (map Read (heard_links net n)) (map Publish (told_links net n)) in
-      let told : length (map Publish (told_links net n)) ≡ length (told_links net n) = length-map (told_links net n) Publish in
-      let e : Publish (get_or (told_links net n) j 0) ≡ Read l =
-      sym (get_or-append_right (map Read (heard_links net n)) (map Publish (told_links net n)) (length (map Read (heard_links net n))) k (Read 0) refl (omega arith)
-      ∙ get_or-map Publish (told_links net n) j 0 (Read 0) (omega arith))
-      ∙ is in
-      never (ap is_read e))
-]
-  where
-    never : false ≡ true → ⊥
-    never e = cc
-
--- of two places of a node, that of the earlier step comes first
-count-part : (n i : ℕ) (xs : List ℕ) → count n (take i xs) ≤ count n xs
-count-part n i xs = omega (arith, ap (count n) (take-append-drop i xs), count-append n (take i xs) (drop i xs))
-
-count-grows : (n i j : ℕ) (h : List ℕ) → i ≤ j → count n (take i h) ≤ count n (take j h)
-count-grows n i j h less = omega (arith, count-part n i (take j h), ap (count n) (take-take i j h less))
-
-pub comes-first : (n i j : ℕ) (h : List ℕ) → count n (take i h) < count n (take j h) → i < j
-comes-first n i j h less = elim (cases_lt i j) [
-  | inl before ↦ before
-  | inr past ↦ absurd (omega (arith, count-grows n j i h past))
-]
 
 -- in rows of one width, a place of an early row is not past the rows
 pub row-inside : (r s w k : ℕ) → r < s → k < w → r * w + k < s * w

@@ -37,6 +37,12 @@ pub all-plans : (P : PlanRecord → Type 0) (net : Net) (heard : ℕ → ℕ →
 all-plans P net heard made rounds each = all-flat P (plans_in net heard made) 0 rounds (λ r least less.
     all-range P (λ n. record_of n r (heard r n) (made r n)) 0 (length net.node_names) (λ n least below. each r n (omega arith) (omega arith)))
 
+-- no sequence of an instance of a round has less delay than what was planned
+pub round-least : (net : Net) (arriving : ℕ → ℕ → ℕ) (heard : ℕ → ℕ → List Heard) (made : ℕ → ℕ → Commitment) (rounds round : ℕ) → AllCommit net arriving heard made rounds → round < rounds → All (λ (p : PlanRecord). IsLeast p.instance p.answer) (plans_in net heard made round)
+round-least net arriving heard made rounds round commits less =
+    all-range (λ (p : PlanRecord). IsLeast p.instance p.answer) (λ n. record_of n round (heard round n) (made round n)) 0 (length net.node_names)
+    (λ n least below. best-least (made round n).problem (made round n).answer (commits round n less (omega arith)).commit.answer)
+
 -- the version that is used, of a link heard
 used : Heard → Used
 used x = record { link = x.link; version = x.version }

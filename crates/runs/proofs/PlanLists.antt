@@ -27,23 +27,27 @@ plans-same net heard seen made other rounds h m = flat-range-same (plans_in net 
     map-range-same (λ n. record_of n r (heard r n) (made r n)) (λ n. record_of n r (seen r n) (other r n)) 0 (length net.node_names) (λ n least below.
     ap (λ (x : List Heard). record_of n r x (made r n)) (h r n (omega arith) (omega arith)) ∙ ap (record_of n r (seen r n)) (m r n (omega arith) (omega arith))))
 
--- the plans of a round more, where each actor has that of the round
-plans-more : (net : Net) (heard : ℕ → ℕ → List Heard) (made : ℕ → ℕ → Commitment) (round : ℕ) (actors : List Acting) → length actors ≡ length net.node_names
+-- where each actor has the plan of a round, together they have those of the round
+pub round-plans : (net : Net) (heard : ℕ → ℕ → List Heard) (made : ℕ → ℕ → Commitment) (round : ℕ) (actors : List Acting) → length actors ≡ length net.node_names
+    → ((n : ℕ) (d : Acting) → n < length net.node_names → (get_or actors n d).records ≡ record_of n round (heard round n) (made round n) ∷ []) → records_in actors ≡ plans_in net heard made round
+round-plans net heard made round actors all one =
+    let f : ℕ → PlanRecord = λ n. record_of n round (heard round n) (made round n) in
+    flat-ones (λ (a : Acting). a.records) f actors 0 (λ k d less. one k d (omega (arith, all)) ∙ ap (λ n. f n ∷ []) (let e : k ≡ 0 + k = omega arith in e)) ∙ ap (λ n. map f (range_with_len 0 n)) all
+
+-- the plans of a round more
+pub plans-more : (net : Net) (heard : ℕ → ℕ → List Heard) (made : ℕ → ℕ → Commitment) (round : ℕ) (actors : List Acting) → length actors ≡ length net.node_names
     → ((n : ℕ) (d : Acting) → n < length net.node_names → (get_or actors n d).records ≡ record_of n round (heard round n) (made round n) ∷ []) → plans_of net heard made round ++ records_in actors ≡ plans_of net heard made (round + 1)
 plans-more net heard made round actors all one =
-    let f : ℕ → PlanRecord = λ n. record_of n round (heard round n) (made round n) in
-    let own : records_in actors ≡ plans_in net heard made round =
-    flat-ones (λ (a : Acting). a.records) f actors 0 (λ k d less. one k d (omega (arith, all)) ∙ ap (λ n. f n ∷ []) (let e : k ≡ 0 + k = omega arith in e)) ∙ ap (λ n. map f (range_with_len 0 n)) all in
-    ap (λ l. plans_of net heard made round ++ l) own
+    ap (λ l. plans_of net heard made round ++ l) (round-plans net heard made round actors all one)
     ∙ flat_map_more (plans_in net heard made) [] (range_with_len 0 round) round
     ∙ ap (flat_map (plans_in net heard made)) (ap (λ k. range_with_len 0 round ++ k ∷ []) (let e : round ≡ 0 + round = omega arith in e) ∙ sym (range-append 0 round 1))
 
 -- a round has a plan for each node
-plans-of-round : (net : Net) (heard : ℕ → ℕ → List Heard) (made : ℕ → ℕ → Commitment) (round : ℕ) → length (plans_in net heard made round) ≡ length net.node_names
+pub plans-of-round : (net : Net) (heard : ℕ → ℕ → List Heard) (made : ℕ → ℕ → Commitment) (round : ℕ) → length (plans_in net heard made round) ≡ length net.node_names
 plans-of-round net heard made round = length-map-range_with_len (λ n. record_of n round (heard round n) (made round n)) 0 (length net.node_names)
 
 -- so there are no more plans than rounds times nodes
-plans-few : (net : Net) (heard : ℕ → ℕ → List Heard) (made : ℕ → ℕ → Commitment) (rounds : ℕ) → length (plans_of net heard made rounds) ≤ rounds * length net.node_names
+pub plans-few : (net : Net) (heard : ℕ → ℕ → List Heard) (made : ℕ → ℕ → Commitment) (rounds : ℕ) → length (plans_of net heard made rounds) ≤ rounds * length net.node_names
 plans-few net heard made rounds =
     let nodes : ℕ = length net.node_names in
     let few = sum_by-le (λ round. length (plans_in net heard made round)) nodes (range_with_len 0 rounds) (λ k d less. omega (arith, plans-of-round net heard made (get_or (range_with_len 0 rounds) k d))) in

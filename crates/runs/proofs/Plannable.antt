@@ -10,6 +10,7 @@ use Rattle.clusters.specs.declared.vehicle_groups.Platoon.{Platoon}
 use Rattle.clusters.specs.declared.vehicle_groups.Window.{Window}
 use Rattle.clusters.proofs.AskedLaws.{expected-clusters}
 use Rattle.clusters.proofs.TakingLaws.{fronts-plannable}
+use Rattle.net_parts.specs.Limits.{most_seconds}
 use Rattle.net_parts.specs.Numbers.{Net}
 use Rattle.net_parts.specs.Outline.{plan_at}
 use Rattle.road_net.specs.Network.{IsNetwork}
@@ -23,7 +24,7 @@ module _ (lists : List (List Platoon)) (window : Window) (is : IsWindow lists wi
   fronts : AreFronts lists (counts_of window.lists) window.lists
   fronts = record { count = same-count; each = is.taken }
 
-  module _ (net : Net) (network : IsNetwork net) (node : ℕ) (below : node < length net.node_names) (head : Head) (sensed : Sensed) (early : sensed.now ≤ 18000) (heard : List Heard) (are : AreExpected net node head sensed heard lists) where
+  module _ (net : Net) (network : IsNetwork net) (node : ℕ) (below : node < length net.node_names) (head : Head) (sensed : Sensed) (early : sensed.now ≤ most_seconds) (heard : List Heard) (are : AreExpected net node head sensed heard lists) where
     pub plannable : ArePlannable (cluster_lists window.lists)
     plannable = fronts-plannable lists (counts_of window.lists) window.lists fronts is.longest (expected-clusters net node head sensed heard lists network early below are)
 

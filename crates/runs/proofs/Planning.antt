@@ -3,7 +3,7 @@ use Rattle.std.proofs.Common.{◌≡◌, ℕ, zero, suc, ◌+◌, ◌*◌, ◌<�
 use Rattle.std.specs.Option.{option_map}
 use Rattle.std.proofs.lemmas.Bool.{cases_lt, le-leb, or_left}
 use Rattle.std.proofs.lemmas.List.{get_or_past, length-map}
-use Rattle.std.proofs.lemmas.Nat.{div_below, mul-le}
+use Rattle.std.proofs.lemmas.Nat.{div_below}
 use Rattle.std.proofs.lemmas.Option.{none-some, same_Some}
 use Rattle.foundation.proofs.PositionLaws.{list_any-at}
 use Rattle.board_model.specs.declared.boards.Heard.{Heard}
@@ -22,6 +22,8 @@ use Rattle.intersection_actor.specs.Rounds.{first_head}
 use Rattle.intersection_actor.proofs.ArrivalLaws.{window-soon}
 use Rattle.intersection_actor.proofs.RecallLaws.{head-round, lawful-round, length-round, plan-round}
 use Rattle.intersection_actor.proofs.ServedLaws.{greens-by, schedule-made}
+use Rattle.net_parts.proofs.OutlineLaws.{run-by}
+use Rattle.net_parts.specs.Limits.{most_seconds}
 use Rattle.net_parts.specs.Numbers.{Net}
 use Rattle.net_simulator.specs.Flow.{Cumulative, cumulative_under}
 use Rattle.net_simulator.specs.Senses.{link_sense}
@@ -91,7 +93,7 @@ module _ (net : Net) (network : IsNetwork net) (node : ℕ) (below : node < leng
   plan : IsRing (plan_at net node)
   plan = plan-is net network node below
 
-  module _ (round : ℕ) (old : List Green) (sensed : Sensed) (heard : List Heard) (c : Commitment) (early : sensed.now ≤ 18000) (line : IsLine (plan_at net node) old) (is : IsCommit net node round old sensed heard c) where
+  module _ (round : ℕ) (old : List Green) (sensed : Sensed) (heard : List Heard) (c : Commitment) (early : sensed.now ≤ most_seconds) (line : IsLine (plan_at net node) old) (is : IsCommit net node round old sensed heard c) where
     look : net.run.look ≤ 180
     look = network.outline.run.look.1
 
@@ -178,8 +180,8 @@ recall-of net seconds e = by net.run.recall e
 
 -- the rounds of a run
 module _ (net : Net) (network : IsNetwork net) (arriving : ℕ → ℕ → ℕ) (heard : ℕ → ℕ → List Heard) (made : ℕ → ℕ → Commitment) (commits : AllCommit net arriving heard made net.run.rounds) (node : ℕ) (below : node < length net.node_names) where
-  early : (r : ℕ) → r < net.run.rounds → r * net.run.step ≤ 18000
-  early r less = (let most = network.outline.run.rounds.1 in mul-le r net.run.step 600 30 (omega (arith, less, most)) network.outline.run.step.1)
+  early : (r : ℕ) → r < net.run.rounds → r * net.run.step ≤ most_seconds
+  early r less = run-by net.run network.outline.run r (omega (arith, less))
 
   first-line : IsLine (plan_at net node) (line_before net made 0 node)
   first-line =

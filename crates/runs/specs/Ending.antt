@@ -8,6 +8,7 @@ use Rattle.net_parts.specs.Numbers.{Net}
 use Rattle.net_simulator.specs.Counts.{counts_at}
 use Rattle.net_simulator.specs.Worlds.{WorldState}
 use Rattle.runs.specs.declared.records.RunRecord.{RunRecord}
+use Rattle.runs.specs.declared.records.RunTotals.{RunTotals}
 use Rattle.runs.specs.declared.run_records.EmptyRecord.{EmptyRecord}
 
 -- empty lists, with capacity for all that the record of a run has besides its plans
@@ -31,3 +32,9 @@ pub record IsRecordOf (net : Net) (planned : List PlanRecord) (actors : List Act
   pub timelines : run.timelines ≡ lines_in actors
   pub links : run.links ≡ map (counts_at world.counts) (range_with_len 0 (length net.link_names))
   pub totals : run.totals ≡ world.totals
+
+-- What is left of these actors and this world where plans are not kept: the timelines of the actors, and what the world has counted.
+pub record AreLeft (net : Net) (actors : List Acting) (world : WorldState) (left : RunTotals) : Type 0 where
+  pub timelines : left.timelines ≡ lines_in actors
+  pub links : left.links ≡ map (counts_at world.counts) (range_with_len 0 (length net.link_names))
+  pub totals : left.totals ≡ world.totals

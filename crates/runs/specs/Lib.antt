@@ -4,3 +4,4 @@ pub mod Plans
 pub mod Promises
 pub mod Resting
 pub mod Runs
+pub mod Tallies

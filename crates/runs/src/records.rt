@@ -1,4 +1,4 @@
-//! The record of a run.
+//! The record of a run, and what it has besides the plans.
 ghost use Rattle.std.specs.Prelude.{◌≡◌, ◌<◌, Contains, length};
 ghost use Rattle.runs.specs.Complete.{IsComplete};
 
@@ -42,3 +42,18 @@ impl RunRecord {
 }
 
 impl CrossesThreads for RunRecord {}
+
+/// What a run leaves where its plans are not kept: what the signals showed, and what the world counted.
+///
+/// docs/RULES.md, "Run".
+#[derive(Drop)]
+pub struct RunTotals {
+    /// The timeline of each node after the last round.
+    pub timelines: Items<Timeline>,
+    /// What was counted of each link.
+    pub links: Items<LinkTotals>,
+    /// What was counted in all.
+    pub totals: Totals,
+}
+
+impl CrossesThreads for RunTotals {}

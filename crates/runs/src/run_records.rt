@@ -1,11 +1,12 @@
-//! The record of a run that is over: its plans, the timelines of its actors, and what its world has counted.
+//! The record of a run that is over: its plans, the timelines of its actors, and what its world has counted; and what is left where
+//! the plans are not kept.
 ghost use Rattle.std.specs.Prelude.{◌≡◌, ◌+◌, ◌*◌, ◌≤◌, ◌++◌, [], IfOk, length, map, vec_capacity, vec_len};
 ghost use Rattle.std.specs.List.{range_with_len};
 ghost use Rattle.net_simulator.specs.Counts.{counts_at};
-ghost use Rattle.runs.specs.Ending.{HasCapacity, IsRecordOf, lines_in, records_in};
+ghost use Rattle.runs.specs.Ending.{AreLeft, HasCapacity, IsRecordOf, lines_in, records_in};
 
 use crate::network_actors::Actors;
-use crate::records::RunRecord;
+use crate::records::{RunRecord, RunTotals};
 use control_flow::greens::Timeline;
 use foundation::items::Items;
 use foundation::threads::CrossesThreads;
@@ -73,15 +74,37 @@ pub fn record_of(
 {
     let mut plans = plans;
     let mut actors = actors;
+    actors.move_records(&mut plans);
+    let RunTotals {
+        timelines,
+        links,
+        totals,
+    } = totals_of(net, actors, world, empty);
+    RunRecord {
+        plans: Items::from_vec(plans),
+        timelines,
+        links,
+        totals,
+    }
+}
+
+/// What is left of a run after its last round where its plans are not kept: the timeline of each actor, and what the world has
+/// counted. It takes no memory.
+///
+/// docs/RULES.md, "Run".
+pub fn totals_of(net: &Network, actors: Actors, world: &World, empty: EmptyRecord) -> RunTotals
+    requires actors { length actors.all.items ≡ length net.now.node_names }
+    requires counts { length world.now.counts ≡ length net.now.link_names }
+    requires capacity { HasCapacity net.now empty }
+    ensures { AreLeft net.now actors.all.items world.now result }
+{
     let EmptyRecord {
         mut timelines,
         mut links,
     } = empty;
-    actors.move_records(&mut plans);
     push_timelines(actors.all, &mut timelines);
     push_totals(net, world, &mut links);
-    RunRecord {
-        plans: Items::from_vec(plans),
+    RunTotals {
         timelines: Items::from_vec(timelines),
         links: Items::from_vec(links),
         totals: world.totals(),

@@ -1,8 +1,8 @@
 -- The rows of a grid are lawful, and no fault comes but out of memory.
-use Rattle.std.proofs.Common.{◌≡◌, ℕ, ◌+◌, ◌*◌, ◌<◌, ◌≤◌, Bool, true, List, [], ◌∷◌, ◌++◌, length, get_or, Option, Some, None, All, is_none, refl, sym, ap, ◌∙◌, subst, arith, filter, ◌%◌, ◌==◌, sum_by}
+use Rattle.std.proofs.Common.{◌≡◌, ℕ, ◌+◌, ◌*◌, ◌<◌, ◌≤◌, Bool, true, false, List, [], ◌∷◌, ◌++◌, length, get_or, Option, Some, None, All, is_none, refl, sym, ap, ◌∙◌, subst, arith, filter, ◌%◌, ◌==◌, sum_by}
 use Rattle.std.specs.List.{flat_map, range_with_len}
 use Rattle.std.proofs.lemmas.Bool.{cond_both, false≢true}
-use Rattle.std.proofs.lemmas.List.{get_or_at}
+use Rattle.std.proofs.lemmas.List.{get_or_at, length-map}
 use Rattle.std.proofs.lemmas.List.Elements.{All-cons, All-head, All-nil, All-tail}
 use Rattle.std.proofs.lemmas.List.FromFn.{length-range_with_len}
 use Rattle.std.proofs.lemmas.List.Sums.{sum_by-append, sum_by-cons, sum_by-le}
@@ -13,16 +13,18 @@ use Rattle.net_parts.specs.declared.faults.NetFault.{NetFault}
 use Rattle.net_parts.specs.declared.faults.NetFault.TheVariants as net_fault
 use Rattle.net_parts.specs.Numbers.{Net}
 use Rattle.net_parts.specs.FirstFaults.{Refuses}
+use Rattle.net_parts.proofs.DraftParts.{numbered-parts}
 use Rattle.net_parts.specs.Outline.{link_at}
 use Rattle.road_net.specs.Network.{IsNetworkOf}
 use Rattle.arrivals.specs.declared.rows.ArrivalRow.{ArrivalRow}
 use Rattle.arrivals.specs.declared.rows.RowFault.{RowFault}
 use Rattle.arrivals.specs.declared.rows.RowFault.TheVariants as row_fault
 use Rattle.arrivals.specs.Faults.{IsAtBound, IsAtLink, IsFirst, IsRowFault}
-use Rattle.net_parts.specs.Limits.{most_of_all}
+use Rattle.net_parts.specs.Limits.{most_of_all, small_seconds, limits}
 use Rattle.arrivals.specs.Rows.{AreRows, IsRow, IsSource, amount_of}
 use Rattle.rand_pcg.specs.Lcg.{Lcg}
 use Rattle.scenario_gen.specs.Arrivals.{after_words, generator, row_by, rows, rows_from, rows_of_second, sources, word}
+use Rattle.scenario_gen.specs.Drafts.{grid_draft}
 use Rattle.scenario_gen.specs.Grids.{AreRounds, HasGrid}
 use Rattle.scenario_gen.specs.Layout.{IsSide}
 use Rattle.scenario_gen.proofs.Legal.{HasNetwork}
@@ -58,16 +60,16 @@ sum-flat f pieces [] = refl
 sum-flat f pieces (x ∷ xs) = sum_by-append f (pieces x) (flat_map pieces xs) ∙ ap (λ k. sum_by f (pieces x) + k) (sum-flat f pieces xs) ∙ sym (sum_by-cons (λ y. sum_by f (pieces y)) x xs)
 
 module _ (net : Net) (entered : List ℕ) (sound : All (IsSource net) entered) where
-  row-lawful : (second place w : ℕ) → second < 18000 → place < length entered → All (IsRow net) (row_by second (get_or entered place 0) w)
+  row-lawful : (second place w : ℕ) → second < small_seconds → place < length entered → All (IsRow net) (row_by second (get_or entered place 0) w)
   row-lawful second place w early inside =
       cond_both (w % 10 == 0) (record { second = second; link = get_or entered place 0; amount = 1000 } ∷ []) [] (All (IsRow net))
-      (λ e. All-cons (IsRow net) _ [] (record { source = sound place 0 inside; bounds = record { second = early; least = omega arith; most = omega arith } }) (All-nil (IsRow net)))
+      (λ e. All-cons (IsRow net) _ [] (record { source = sound place 0 inside; bounds = record { second = omega (arith, early); least = omega arith; most = omega arith } }) (All-nil (IsRow net)))
       (λ e. All-nil (IsRow net))
 
   row-few : (second place w : ℕ) → sum_by amount_of (row_by second (get_or entered place 0) w) ≤ 1000
   row-few second place w = cond_both (w % 10 == 0) (record { second = second; link = get_or entered place 0; amount = 1000 } ∷ []) [] (λ rs. sum_by amount_of rs ≤ 1000) (λ e. omega arith) (λ e. omega arith)
 
-  second-lawful : (second : ℕ) (g : Lcg) → second < 18000 → All (IsRow net) (rows_of_second second entered g)
+  second-lawful : (second : ℕ) (g : Lcg) → second < small_seconds → All (IsRow net) (rows_of_second second entered g)
   second-lawful second g early =
       all-flat (IsRow net) (λ place. row_by second (get_or entered place 0) (word g place)) (range_with_len 0 (length entered))
       (below (length entered) (λ place. All (IsRow net) (row_by second (get_or entered place 0) (word g place))) (λ place h. row-lawful second place (word g place) early h))
@@ -79,7 +81,7 @@ module _ (net : Net) (entered : List ℕ) (sound : All (IsSource net) entered) w
       let b = sum_by-le (λ place. sum_by amount_of (pieces place)) 1000 (range_with_len 0 (length entered)) (below (length entered) (λ place. sum_by amount_of (pieces place) ≤ 1000) (λ place h. row-few second place (word g place))) in
       omega (arith, a, b, length-range_with_len 0 (length entered))
 
-  module _ (few : length entered ≤ 320) (g : Lcg) (seconds : ℕ) (short : seconds ≤ 3000) where
+  module _ (few : length entered ≤ (limits false).links) (g : Lcg) (seconds : ℕ) (short : seconds ≤ 3000) where
     all-lawful : All (IsRow net) (rows_from g entered seconds)
     all-lawful =
         all-flat (IsRow net) (λ second. rows_of_second second entered (after_words g (second * length entered))) (range_with_len 0 seconds)
@@ -92,12 +94,19 @@ module _ (net : Net) (entered : List ℕ) (sound : All (IsSource net) entered) w
         let b = sum_by-le (λ second. sum_by amount_of (pieces second)) 320000 (range_with_len 0 seconds) (below seconds (λ second. sum_by amount_of (pieces second) ≤ 320000) (λ second h. omega (arith, few, second-few second (after_words g (second * length entered))))) in
         omega (arith, a, b, short, length-range_with_len 0 seconds)
 
--- the rows of a grid are lawful in a network of few links
-pub are-rows : (net : Net) (number rounds : ℕ) → length net.link_names ≤ 320 → AreRounds rounds → AreRows net (rows number rounds net)
+-- a network of a draft has no more links than the draft may have, and that of a grid is not great
+small-few : (d : Draft) (net : Net) → IsNetworkOf d net → length net.link_names ≤ (limits d.great).links
+small-few d net is = let parts = numbered-parts d net is.numbers in rw (parts.names, length-map) is.bounds.counts.links.1
+
+pub grid-few : (side rounds : ℕ) (net : Net) → IsNetworkOf (grid_draft side rounds) net → length net.link_names ≤ (limits false).links
+grid-few side rounds net is = small-few (grid_draft side rounds) net is
+
+-- the rows of a grid are lawful in a network that is not great
+pub are-rows : (net : Net) (number rounds : ℕ) → length net.link_names ≤ (limits false).links → AreRounds rounds → AreRows net (rows number rounds net)
 are-rows net number rounds few are =
     let most = are.most in
     let short : 5 * rounds ≤ 3000 = omega arith in
-    let sources_few : length (sources net) ≤ 320 = omega (arith, few, few-sources net) in
+    let sources_few : length (sources net) ≤ (limits false).links = omega (arith, few, few-sources net) in
     record { each = all-lawful net (sources net) (are-sources net) sources_few (generator number) (5 * rounds) short; few = all-few net (sources net) (are-sources net) sources_few (generator number) (5 * rounds) short }
 
 -- a draft that stands for a network is refused only when out of memory
@@ -146,4 +155,4 @@ module _ (net : Net) (all : List ArrivalRow) (are : AreRows net all) where
 pub has-grid : (number side rounds : ℕ) → IsSide side → AreRounds rounds → HasGrid number side rounds
 has-grid number side rounds is are =
     let has = square side rounds is are in
-    record { net = has.net; network = has.network; rows_lawful = are-rows has.net number rounds has.few are }
+    record { net = has.net; network = has.network; rows_lawful = are-rows has.net number rounds (grid-few side rounds has.net has.network) are }

@@ -14,7 +14,8 @@ use Rattle.net_parts.specs.declared.drafts.DraftLink.{DraftLink}
 use Rattle.net_parts.specs.declared.drafts.DraftTurn.{DraftTurn}
 use Rattle.net_parts.specs.declared.roads.Link.{Link}
 use Rattle.net_parts.specs.declared.roads.Turn.{Turn}
-use Rattle.net_parts.specs.Bounds.{IsNameByte, IsName, IsRun, IsBoundedPhase, IsBoundedNode, IsBoundedTurn, IsBoundedLink, IsBounded, HasYieldBounds, HasWalkBounds}
+use Rattle.net_parts.specs.Bounds.{IsNameByte, IsName, HasRun, IsBoundedPhase, IsBoundedNode, IsBoundedTurn, IsBoundedLink, IsBounded, HasYieldBounds, HasWalkBounds}
+use Rattle.net_parts.specs.Limits.{limits}
 use Rattle.net_parts.specs.Numbers.{Net, AreDistinct, has_link, no_link, node_names, link_names}
 use Rattle.net_parts.specs.Outline.{HasNoOverlaps, yields_at}
 use Rattle.road_net.proofs.GreenLaws.{homes-apart}
@@ -159,17 +160,19 @@ draft-link-by l e =
     }
 
 abbrev is_bounded : Draft → Bool
-is_bounded d = (within 1 (length d.nodes) 64 && (within 1 (length d.links) 320 && nat_le (length d.conflicts) 1024)) && (list_all is_draft_node d.nodes && list_all is_draft_link d.links)
+is_bounded d = (within 1 (length d.nodes) (limits d.great).nodes && (within 1 (length d.links) (limits d.great).links && nat_le (length d.conflicts) (limits d.great).conflicts)) && (list_all is_draft_node d.nodes && list_all is_draft_link d.links)
 
-bounded-by : (d : Draft) → IsRun d.run → is_bounded d ≡ true → IsBounded d
+bounded-by : (d : Draft) → HasRun d → is_bounded d ≡ true → IsBounded d
 bounded-by d run e =
-    let parts = and_parts (within 1 (length d.nodes) 64 && (within 1 (length d.links) 320 && nat_le (length d.conflicts) 1024)) _ e in
-    let nodes = and_parts (within 1 (length d.nodes) 64) _ parts.0 in
-    let links = and_parts (within 1 (length d.links) 320) (nat_le (length d.conflicts) 1024) nodes.1 in
+    let most = limits d.great in
+    let parts = and_parts (within 1 (length d.nodes) most.nodes && (within 1 (length d.links) most.links && nat_le (length d.conflicts) most.conflicts)) _ e in
+    let nodes = and_parts (within 1 (length d.nodes) most.nodes) _ parts.0 in
+    let links = and_parts (within 1 (length d.links) most.links) (nat_le (length d.conflicts) most.conflicts) nodes.1 in
     let lists = and_parts (list_all is_draft_node d.nodes) (list_all is_draft_link d.links) parts.1 in
     record {
-      counts = record { nodes = within-by 1 (length d.nodes) 64 nodes.0; links = within-by 1 (length d.links) 320 links.0; conflicts = leb-true (length d.conflicts) 1024 links.1 };
-      run = run;
+      counts = record { nodes = within-by 1 (length d.nodes) most.nodes nodes.0; links = within-by 1 (length d.links) most.links links.0; conflicts = leb-true (length d.conflicts) most.conflicts links.1 };
+      run = run.run;
+      rounds = run.rounds;
       nodes = all-by is_draft_node IsBoundedNode draft-node-by d.nodes lists.0;
       links = all-by is_draft_link IsBoundedLink draft-link-by d.links lists.1;
     }
@@ -331,19 +334,18 @@ joined-by net e =
 
 abbrev is_joined_if : Option Net → Bool
 is_joined_if None = false
-is_joined_if (Some net) = is_joined net && nat_le (length net.link_names) 320
+is_joined_if (Some net) = is_joined net
 
 -- the draft stands for a network, if its run is within its bounds; the guesses tell the numbers of its names
 abbrev pub is_legal : (List ℕ → ℕ) → (List ℕ → ℕ) → Draft → Bool
 is_legal node link d = is_bounded d && (are_own node 0 (node_names d) && (are_own link 0 (link_names d) && is_joined_if (numbered_guessed node link d)))
 
--- and there it is; it has few links
+-- and there it is
 pub record HasNetwork (d : Draft) : Type 0 where
   pub net : Net
   pub network : IsNetworkOf d net
-  pub few : length net.link_names ≤ 320
 
-pub legal-by : (node link : List ℕ → ℕ) (d : Draft) → IsRun d.run → is_legal node link d ≡ true → HasNetwork d
+pub legal-by : (node link : List ℕ → ℕ) (d : Draft) → HasRun d → is_legal node link d ≡ true → HasNetwork d
 legal-by node link d run e =
     let bounds = and_parts (is_bounded d) _ e in
     let nodes = and_parts (are_own node 0 (node_names d)) _ bounds.1 in
@@ -353,6 +355,5 @@ legal-by node link d run e =
     there : (o : Option Net) → numbered_guessed node link d ≡ o → is_joined_if o ≡ true → IsBounded d → AreDistinct (node_names d) → AreDistinct (link_names d) → HasNetwork d
     there None is none bounds nodes links = absurd (false≢true none)
     there (Some net) is joined bounds nodes links =
-        let p = and_parts (is_joined net) (nat_le (length net.link_names) 320) joined in
         let numbers = numbered-guessed d node link nodes links net is in
-        record { net = net; network = record { bounds = bounds; node_names = nodes; link_names = links; numbers = numbers; joins = joined-by net p.0 }; few = leb-true (length net.link_names) 320 p.1 }
+        record { net = net; network = record { bounds = bounds; node_names = nodes; link_names = links; numbers = numbers; joins = joined-by net joined } }

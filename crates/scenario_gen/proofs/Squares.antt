@@ -3,14 +3,17 @@ use Rattle.std.proofs.Common.{◌≡◌, ℕ, zero, suc, ◌+◌, ◌-◌, ◌*�
 use Rattle.std.specs.Prelude.{if◌then◌else◌}
 use Rattle.std.specs.Fmt.{digits}
 use Rattle.std.specs.List.{flat_map, position_or_len}
-use Rattle.net_parts.specs.Bounds.{IsRun}
+use Rattle.net_parts.specs.Bounds.{HasRun, IsRun}
 use Rattle.scenario_gen.specs.Drafts.{grid_draft, run}
 use Rattle.scenario_gen.specs.Grids.{AreRounds}
 use Rattle.scenario_gen.specs.Layout.{IsSide, entry_roads, nodes, number_of}
 use Rattle.scenario_gen.proofs.Legal.{HasNetwork, is_legal, legal-by}
 
-run-within : (rounds : ℕ) → AreRounds rounds → IsRun (run rounds)
-run-within rounds are = record { step = (omega arith, omega arith); look = (omega arith, omega arith); within = omega arith; gap = omega arith; rounds = (are.least, are.most); age = tt; hold = tt; recall = tt; act_step = tt; rate = tt }
+numbers-within : (rounds : ℕ) → AreRounds rounds → IsRun (run rounds)
+numbers-within rounds are = record { step = (omega arith, omega arith); look = (omega arith, omega arith); within = omega arith; gap = omega arith; rounds = (are.least, omega (arith, are.most)); seconds = omega (arith, are.most); age = tt; hold = tt; recall = tt; act_step = tt; rate = tt }
+
+run-within : (side rounds : ℕ) → AreRounds rounds → HasRun (grid_draft side rounds)
+run-within side rounds are = record { run = numbers-within rounds are; rounds = are.most }
 
 -- the number that decimal digits and, after `_`, the number of a direction stand for
 abbrev with_direction : ℕ → List ℕ → ℕ
@@ -79,4 +82,4 @@ legal (suc (suc (suc (suc (suc (suc (suc (suc zero)))))))) rounds is = legal-8 r
 legal (suc (suc (suc (suc (suc (suc (suc (suc (suc more))))))))) rounds is = absurd (let h = is.most in omega arith)
 
 pub square : (side rounds : ℕ) → IsSide side → AreRounds rounds → HasNetwork (grid_draft side rounds)
-square side rounds is are = legal-by node_guess (road_guess (4 * (side * side)) (entering side)) (grid_draft side rounds) (run-within rounds are) (legal side rounds is)
+square side rounds is are = legal-by node_guess (road_guess (4 * (side * side)) (entering side)) (grid_draft side rounds) (run-within side rounds are) (legal side rounds is)

@@ -68,4 +68,4 @@ run rounds = record { step = 5; look = 60; gap = 2; rounds = rounds; split = fal
 
 -- the grid with `side` nodes a side, for `rounds` rounds
 abbrev pub grid_draft : ℕ → ℕ → Draft
-grid_draft side rounds = record { run = run rounds; nodes = map (node side) (nodes side); links = map (link side) (roads side); conflicts = flat_map (conflicts side) (nodes side) }
+grid_draft side rounds = record { run = run rounds; nodes = map (node side) (nodes side); links = map (link side) (roads side); conflicts = flat_map (conflicts side) (nodes side); great = false }

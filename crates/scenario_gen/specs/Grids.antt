@@ -1,5 +1,6 @@
 -- The grid of a number.
-use Rattle.std.specs.Prelude.{ℕ, ◌≤◌}
+use Rattle.std.specs.Prelude.{ℕ, ◌≤◌, false}
+use Rattle.net_parts.specs.Limits.{limits}
 use Rattle.net_parts.specs.Numbers.{Net}
 use Rattle.road_net.specs.Network.{IsNetworkOf}
 use Rattle.arrivals.specs.Amounts.{Amounts, AreArrivalsOf}
@@ -10,7 +11,7 @@ use Rattle.scenario_gen.specs.Drafts.{grid_draft}
 -- how many rounds there may be
 pub record AreRounds (rounds : ℕ) : Type 0 where
   pub least : 1 ≤ rounds
-  pub most : rounds ≤ 600
+  pub most : rounds ≤ (limits false).rounds
 
 -- The grid of a number, with `side` nodes a side and for `rounds` rounds: the network is that of its draft, and the arrivals
 -- are those of the rows that the number's words decide.

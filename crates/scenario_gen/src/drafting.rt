@@ -65,6 +65,7 @@ fn draft_of(alloc: Global, side: u32, rounds: u32, roads: &[Road]) -> Result<Dra
         nodes,
         links,
         conflicts,
+        great: false,
     })
 }
 

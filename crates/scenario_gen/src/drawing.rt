@@ -1,5 +1,6 @@
 //! What enters a square grid: words are drawn one after another, and decide.
-ghost use Rattle.std.specs.Prelude.{◌≡◌, ◌<◌, ◌++◌, ◌∷◌, [], IfOk, OnOk, if◌then◌else◌, is_none, length};
+ghost use Rattle.std.specs.Prelude.{◌≡◌, ◌<◌, ◌≤◌, ◌++◌, ◌∷◌, [], IfOk, OnOk, if◌then◌else◌, false, is_none, length};
+ghost use Rattle.net_parts.specs.Limits.{limits};
 ghost use Rattle.net_parts.specs.Outline.{link_at};
 ghost use Rattle.road_net.specs.Network.{IsNetwork};
 ghost use Rattle.arrivals.specs.Rows.{AreRows};
@@ -19,14 +20,15 @@ const STREAM: u64 = 54;
 /// The seconds of a round.
 const STEP: u32 = 5;
 
-/// The rows of arrivals that the words of a number decide, in `rounds` rounds of a network.
+/// The rows of arrivals that the words of a number decide, in `rounds` rounds of a network that is not great.
 pub(crate) fn rows(
     alloc: Global,
     number: u64,
     rounds: u32,
     net: &Network,
 ) -> Result<Vec<ArrivalRow>, AllocError>
-    requires { AreRounds rounds }
+    requires rounds { AreRounds rounds }
+    requires few { length net.now.link_names ≤ (limits false).links }
     ensures value { IfOk result (λ rows. rows.items ≡ words.rows number rounds net.now) }
     ensures lawful { IfOk result (λ rows. AreRows net.now (words.rows number rounds net.now)) }
 {

@@ -1,5 +1,6 @@
 //! The grid of a number.
-ghost use Rattle.std.specs.Prelude.{◌≡◌, IfOk};
+ghost use Rattle.std.specs.Prelude.{◌≡◌, ◌≤◌, IfOk, false, length};
+ghost use Rattle.net_parts.specs.Limits.{limits};
 ghost use Rattle.road_net.specs.Network.{IsNetworkOf};
 ghost use Rattle.arrivals.specs.Amounts.{AreArrivals, AreArrivalsOf};
 ghost use Rattle.scenario_gen.specs.Arrivals as words;
@@ -58,9 +59,10 @@ fn alloc_error(fault: NetFault) -> AllocError
     }
 }
 
-/// What enters a network in `rounds` rounds, by the words of a number.
+/// What enters a network that is not great in `rounds` rounds, by the words of a number.
 fn arrivals(alloc: Global, number: u64, rounds: u32, net: &Network) -> Result<Arrivals, AllocError>
-    requires { AreRounds rounds }
+    requires rounds { AreRounds rounds }
+    requires few { length net.now.link_names ≤ (limits false).links }
     ensures of { IfOk result (AreArrivalsOf net.now (words.rows number rounds net.now)) }
     ensures arrivals { IfOk result (AreArrivals net.now) }
 {

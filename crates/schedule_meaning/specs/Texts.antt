@@ -34,7 +34,7 @@ pub record IsFormText (bytes : List ℕ) (free : Bool) (p : Problem) : Type 0 wh
   pub ring : IsFreeWhere free p.plan
   pub text : bytes ≡ whole_text free p.plan p.head p.lists
 
--- the phases of a plan, whose ring may be free or not
+-- the phases of a plan, whose ring may be free where this says so, and nowhere else
 abbrev pub IsPlanWhere : Bool → List Phase → Type 0
 IsPlanWhere true plan = IsRing plan
 IsPlanWhere false plan = IsPlan plan

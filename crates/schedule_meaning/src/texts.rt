@@ -68,7 +68,7 @@ pub fn read_instance(alloc: Global, bytes: &[u8]) -> Result<Instance, TextFault>
     }
 }
 
-/// The plan of these phases, fewer than 2^32, whose ring may be free or not.
+/// The plan of these phases, of which there are fewer than 2^32. Its ring may be free where `free_ring` says so.
 ///
 /// docs/RULES.md, "Phases".
 pub fn plan_where(free_ring: bool, phases: Vec<Phase>) -> Result<PhasePlan, PlanFault>

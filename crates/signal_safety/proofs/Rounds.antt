@@ -2,7 +2,6 @@
 use Rattle.std.proofs.Common.{◌≡◌, ℕ, zero, suc, ◌+◌, ◌*◌, ◌/◌, ◌<◌, ◌≤◌, List, Option, Some, None, All, length, refl, ap, subst, ◌∙◌, inl, inr, arith, leb}
 use Rattle.std.specs.Option.{option_map}
 use Rattle.std.proofs.lemmas.Bool.{cases_lt, cond_both, leb-true}
-use Rattle.std.proofs.lemmas.Nat.{mul-le}
 use Rattle.std.proofs.Math.Nat.{div-lt_iff_lt-mul}
 use Rattle.std.proofs.lemmas.Option.{none-some, same_Some}
 use Rattle.control_flow.specs.Greens.{BeginBy, GoesOn, IsContinued, IsGreen, IsLawful, head_at, head_in, row_after, spliced}
@@ -12,6 +11,8 @@ use Rattle.control_flow.specs.declared.greens.Green.{Green}
 use Rattle.control_flow.proofs.MakingLaws.{line_of-by, line_of-line, rotation_of-by, rotation_of-line}
 use Rattle.control_flow.proofs.RowLaws.{row_after-some}
 use Rattle.control_flow.proofs.SpliceLaws.{continued, head_in-by, head_in-since}
+use Rattle.net_parts.proofs.OutlineLaws.{run-by}
+use Rattle.net_parts.specs.Limits.{most_seconds}
 use Rattle.net_parts.specs.Numbers.{Net}
 use Rattle.net_parts.specs.Outline.{plan_at}
 use Rattle.phase_plan.specs.Phases.{IsRing}
@@ -86,8 +87,8 @@ abbrev pub AllKeepEvery : Net → ℕ → (ℕ → ℕ → List Green) → ℕ �
 AllKeepEvery net step line rounds = (round node : ℕ) → round < rounds → node < length net.node_names → KeepsLine (plan_at net node) (line round node) (round * step) (line (suc round) node)
 
 -- they do where the first lines are lines, and each round keeps what is a line before it
-module _ (net : Net) (step : ℕ) (line : ℕ → ℕ → List Green) (rounds : ℕ) (early : (r : ℕ) → r < rounds → r * step ≤ 18000) (first : (node : ℕ) → node < length net.node_names → IsLine (plan_at net node) (line 0 node))
-    (keeps : (round node : ℕ) → round < rounds → node < length net.node_names → round * step ≤ 18000 → IsLine (plan_at net node) (line round node) → KeepsLine (plan_at net node) (line round node) (round * step) (line (suc round) node)) where
+module _ (net : Net) (step : ℕ) (line : ℕ → ℕ → List Green) (rounds : ℕ) (early : (r : ℕ) → r < rounds → r * step ≤ most_seconds) (first : (node : ℕ) → node < length net.node_names → IsLine (plan_at net node) (line 0 node))
+    (keeps : (round node : ℕ) → round < rounds → node < length net.node_names → round * step ≤ most_seconds → IsLine (plan_at net node) (line round node) → KeepsLine (plan_at net node) (line round node) (round * step) (line (suc round) node)) where
   line-is : (r : ℕ) → r ≤ rounds → (node : ℕ) → node < length net.node_names → IsLine (plan_at net node) (line r node)
   line-is zero most node below = first node below
   line-is (suc r) most node below = (keeps r node (omega arith) below (early r (omega arith)) (line-is r (omega arith) node below)).line
@@ -109,11 +110,11 @@ abbrev pub AllKeep : Net → (ℕ → ℕ → List Green) → ℕ → Type 0
 AllKeep net = AllKeepEvery net net.run.step
 
 module _ (net : Net) (network : IsNetwork net) (line : ℕ → ℕ → List Green) (rounds : ℕ) (few : rounds ≤ net.run.rounds) (first : (node : ℕ) → node < length net.node_names → IsLine (plan_at net node) (line 0 node))
-    (keeps : (round node : ℕ) → round < rounds → node < length net.node_names → round * net.run.step ≤ 18000 → IsLine (plan_at net node) (line round node)
+    (keeps : (round node : ℕ) → round < rounds → node < length net.node_names → round * net.run.step ≤ most_seconds → IsLine (plan_at net node) (line round node)
     → KeepsLine (plan_at net node) (line round node) (round * net.run.step) (line (suc round) node)) where
   pub all-keep : AllKeep net line rounds
   all-keep = all-keep-every net net.run.step line rounds
-      (λ r less. (let most = network.outline.run.rounds.1 in mul-le r net.run.step 600 30 (omega arith) network.outline.run.step.1)) first keeps
+      (λ r less. run-by net.run network.outline.run r (omega (arith, less, few))) first keeps
 
 module _ (net : Net) (network : IsNetwork net) (line : ℕ → ℕ → List Green) (rounds : ℕ) (keep : AllKeep net line rounds) where
   pub shows : (r : ℕ) → r ≤ rounds → (second node : ℕ) → node < length net.node_names → second / net.run.step < r → sign_at (line r node) second ≡ shown_by net (λ round. line (suc round)) second node

@@ -6,6 +6,7 @@ use Rattle.audit.specs.Audits.{AreLawful}
 use Rattle.control_flow.specs.Greens.{IsLawful}
 use Rattle.control_flow.specs.Signs.{sign_at}
 use Rattle.control_flow.specs.declared.greens.Green.{Green}
+use Rattle.net_parts.specs.Limits.{most_seconds}
 use Rattle.net_parts.specs.Numbers.{Net}
 use Rattle.net_parts.specs.Outline.{plan_at}
 use Rattle.net_simulator.specs.Sums.{end_of_run}
@@ -51,7 +52,7 @@ module _ (net : Net) (network : IsNetwork net) (arriving : ℕ → ℕ → ℕ) 
       stands-under net arriving store (signs_by (line_in lines)) (signs_by (line_in renewed)) w
       (λ x n less. sym (same-before net network (cumulative_in net arriving store) (past-same net arriving store) r lines renewed near a.acted then-renewed x n (omega (arith, a.second, less)))) a.stands
 
-  pub room : r < act_rounds net → w.second + act_step net ≤ 18000
+  pub room : r < act_rounds net → w.second + act_step net ≤ most_seconds
   room less = omega (arith, time-for net network r less, a.second)
 
   -- after a round more
@@ -83,7 +84,7 @@ ended net network arriving store lines w t a is =
 module _ (net : Net) (network : IsNetwork net) (arriving : ℕ → ℕ → ℕ) (store : ℕ → ℕ) (w : SpillState) (run : SpillRun) (a : HaveSpilled net arriving store (act_rounds net) run.timelines w) (all : run.totals ≡ w.totals) where
   pub recorded : IsSpillRun net arriving store run
   recorded = record {
-    by = ended net network arriving store run.timelines w run.totals a all;
+    actuated = ended net network arriving store run.timelines w run.totals a all;
     lines = fill_by_all (line_before (first_line net) a.acted.made (act_rounds net)) run.timelines (length net.node_names) [] a.acted.count a.acted.are;
   }
 
@@ -123,7 +124,7 @@ module _ (net : Net) (network : IsNetwork net) (arriving : ℕ → ℕ → ℕ) 
 -- and its record
 module _ (net : Net) (network : IsNetwork net) (arriving : ℕ → ℕ → ℕ) (store : ℕ → ℕ) (run : SpillRun) (is : IsSpillRun net arriving store run) where
   pub record-lawful : AreLawful net run.timelines
-  record-lawful = subst (AreLawful net) (sym is.lines) (last-lawful net network arriving store run.totals is.by)
+  record-lawful = subst (AreLawful net) (sym is.lines) (last-lawful net network arriving store run.totals is.actuated)
 
   pub record-safe : IsSafe net (line_in run.timelines)
   record-safe = safe net network (line_in run.timelines) record-lawful

@@ -34,8 +34,8 @@ LastLinesShow net made =
 
 -- The record of a run: what is counted in it, and its last lines.
 pub record IsSpillRun (net : Net) (arriving : ℕ → ℕ → ℕ) (store : ℕ → ℕ) (run : SpillRun) : Type 0 where
-  pub by : IsActuatedIn net arriving store run.totals
-  pub lines : run.timelines ≡ last_lines net by.made
+  pub actuated : IsActuatedIn net arriving store run.totals
+  pub lines : run.timelines ≡ last_lines net actuated.made
 
 -- what a spill run counts in all is what the world with the store counts under its last lines
 abbrev pub CountsLastLines : Net → (ℕ → ℕ → ℕ) → (ℕ → ℕ) → SpillRun → Type 0

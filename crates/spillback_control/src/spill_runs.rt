@@ -1,6 +1,6 @@
 //! The run of a network under actuated control in the world with a store.
 
-ghost use Rattle.std.specs.Prelude.{◌≡◌, ℕ, IfOk, OnOk, length, slice_index};
+ghost use Rattle.std.specs.Prelude.{◌≡◌, ℕ, IfOk, length, slice_index};
 ghost use Rattle.actuated.specs.ActSteps as steps;
 ghost use Rattle.arrivals.specs.Amounts.{AreArrivals, arriving_of};
 ghost use Rattle.audit.specs.Audits.{AreLawful};
@@ -76,14 +76,14 @@ pub fn spill_run(
     ensures lawful { IfOk result (λ run. AreLawful net.now run.timelines) }
     ensures safe { IfOk result (λ run. IsSafe net.now (line_in run.timelines)) }
     ensures signs { IfOk result (λ run. (is : IsSpillRun net.now (arriving_of arrivals.now) (slice_index store.now) run)
-        → LastLinesShow net.now is.by.made) }
+        → LastLinesShow net.now is.actuated.made) }
     ensures counts { IfOk result (CountsLastLines net.now (arriving_of arrivals.now) (slice_index store.now)) }
     ensures whole { IfOk result (λ run. IsBalanced run.totals) }
 {
     law_of_network(net);
-    let mut lines = first_lines(alloc, net)?;
+    let lines = first_lines(alloc, net)?;
     let mut world = SpillWorld::new(alloc, net)?;
-    play_rounds(alloc, net, arrivals, store, &mut lines, &mut world)?;
+    let lines = play_rounds(alloc, net, arrivals, store, lines, &mut world)?;
     Ok(SpillRun {
         timelines: Items::from_vec(lines),
         totals: world.totals(),
@@ -101,22 +101,21 @@ pub fn law_of_one_spill(net: &Network)
     law_of_network(net);
 }
 
-/// Plays all rounds from the first one.
+/// Plays all rounds from the first one, and gives the last lines.
 fn play_rounds(
     alloc: Global,
     net: &Network,
     arrivals: &Arrivals,
     store: &Store,
-    lines: &mut Vec<Timeline>,
+    mut lines: Vec<Timeline>,
     world: &mut SpillWorld,
-) -> Result<(), AllocError>
+) -> Result<Vec<Timeline>, AllocError>
     requires arrivals { AreArrivals net.now arrivals.now }
     requires store { length store.now ≡ length net.now.link_names }
     requires first { HaveSpilled net.now (arriving_of arrivals.now) (slice_index store.now) 0
-        lines.old.items world.old }
-    ensures { OnOk result (HaveSpilled net.now (arriving_of arrivals.now) (slice_index store.now)
-        (steps.act_rounds net.now)
-        lines.new.items world.new) }
+        lines.items world.old }
+    ensures { IfOk result (λ played. HaveSpilled net.now (arriving_of arrivals.now) (slice_index store.now)
+        (steps.act_rounds net.now) played.items world.new) }
 {
     let mut near = zeros(alloc, net.links() as usize)?;
     let mut calls = Vec::with_capacity(alloc, 4)?;
@@ -124,7 +123,7 @@ fn play_rounds(
     let rounds = act_rounds(net);
     for _round in 0..rounds {
         sense_near(near.as_mut_slice(), net, world);
-        renew_lines(alloc, net, world.now(), near.as_slice(), lines, &mut calls)?;
+        lines = renew_lines(alloc, net, world.now(), near.as_slice(), lines, &mut calls)?;
         world.advance(
             net,
             store,
@@ -135,5 +134,5 @@ fn play_rounds(
             step,
         );
     }
-    Ok(())
+    Ok(lines)
 }

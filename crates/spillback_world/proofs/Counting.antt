@@ -3,6 +3,7 @@ use Rattle.std.proofs.Common.{◌≡◌, ℕ, ◌+◌, ◌-◌, ◌<◌, ◌≤�
 use Rattle.std.proofs.lemmas.List.{get_or-replicate, length-replicate}
 use Rattle.std.proofs.lemmas.List.FromFn.{fill_by_all}
 use Rattle.control_flow.specs.declared.greens.Sign.{Sign}
+use Rattle.net_parts.specs.Limits.{most_seconds}
 use Rattle.net_parts.specs.Numbers.{Net}
 use Rattle.net_parts.specs.Outline.{link_at}
 use Rattle.road_net.specs.Network.{IsNetwork}
@@ -50,7 +51,7 @@ module _ (net : Net) (network : IsNetwork net) (arriving : ℕ → ℕ → ℕ) 
   }
 
   module _ (few : AreFew net arriving) (sources : (x l node : ℕ) → (link_at net l).from ≡ Some node → arriving x l ≡ 0)
-      (n : ℕ) (early : n ≤ 18000) (w v : SpillState) (counts : List LinkTotals) (have : HaveCounted net arriving store shown n w counts) (second : v.second ≡ w.second + 1) (stands : Stands net arriving store shown v) where
+      (n : ℕ) (early : n ≤ most_seconds) (w v : SpillState) (counts : List LinkTotals) (have : HaveCounted net arriving store shown n w counts) (second : v.second ≡ w.second + 1) (stands : Stands net arriving store shown v) where
     then : v.second ≡ n + 1
     then = omega (arith, second, have.second)
 

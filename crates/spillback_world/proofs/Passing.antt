@@ -1,5 +1,6 @@
 -- A world that stands for its past stands for it one second later.
 use Rattle.std.proofs.Common.{◌≡◌, ◌≢◌, ℕ, suc, ◌+◌, ◌-◌, ◌%◌, ◌<◌, ◌≤◌, Bool, min, List, Option, Some, None, length, slice_index, slice_index_or, refl, sym, ap, subst, ◌∙◌, add-one, arith, cond}
+use Rattle.net_parts.specs.Limits.{most_seconds}
 use Rattle.net_parts.specs.Numbers.{Net}
 use Rattle.net_parts.specs.Outline.{link_at, turns_at}
 use Rattle.road_net.specs.Joins.{split_of}
@@ -138,7 +139,7 @@ module _ (net : Net) (network : IsNetwork net) (arriving : ℕ → ℕ → ℕ) 
   outside-fits l h = omega (arith, stands.outside l h, arrived-most (suc x) l h)
 
   -- a queue has stood for no longer than the world
-  pub stood-small : w.second < 18000 → (l : ℕ) → l < length net.link_names → slice_index w.stood l < 18000
+  pub stood-small : w.second < most_seconds → (l : ℕ) → l < length net.link_names → slice_index w.stood l < most_seconds
   stood-small early l h = omega (arith, stands.stood l h, stood-most net P x l)
 
   outside-most : (past : ℕ → ℕ → Cumulative) (n : ℕ) → outside_all net arriving past n ≤ 2000000000
@@ -147,13 +148,13 @@ module _ (net : Net) (network : IsNetwork net) (arriving : ℕ → ℕ → ℕ) 
       omega (arith, most, total-swap arriving (length net.link_names) n, total-le (outside arriving past n) (λ l. total (λ y. arriving y l) n) (length net.link_names) (λ l h. omega arith))
 
   -- what the seconds so far have added to the delay
-  pub delay-most : w.totals.delay ≤ 11556000000000000
+  pub delay-most : w.totals.delay ≤ 1415750400000000000
   delay-most =
       let links = network.outline.link_count.1 in
-      let each = total-le (λ y. total (λ l. queue net P (y + 1) l) (length net.link_names) + outside_all net arriving P (y + 1)) (λ y. 642000000000) x (λ y b.
+      let each = total-le (λ y. total (λ l. queue net P (y + 1) l) (length net.link_names) + outside_all net arriving P (y + 1)) (λ y. 16386000000000) x (λ y b.
       let queues = total-most (λ l. queue net P (y + 1) l) (length net.link_names) (λ l h. queues-most net network moves past moved-on come-most x (y + 1) l (omega arith) h) in
       omega (arith, queues, links, outside-most P (y + 1))) in
-      omega (arith, each, total-of 642000000000 x, stands.by, ap (λ (t : SpillTotals). t.delay) stands.totals)
+      omega (arith, each, total-of 16386000000000 x, stands.by, ap (λ (t : SpillTotals). t.delay) stands.totals)
 
   module _ (signs : List Sign) (since : List ℕ) (rates : List ℕ) (lv1 qs1 en1 hs1 : List ℕ) (begun : IsBegun net w signs since rates lv1 qs1 en1 hs1) where
     -- what waits and what is held, as the links discharge
@@ -163,7 +164,7 @@ module _ (net : Net) (network : IsNetwork net) (arriving : ℕ → ℕ → ℕ) 
       within = λ l h. omega (arith, begun.held l h, stands.held l h, within-at net network arriving (slice_index store) shown x l h);
     }
 
-    module _ (early : w.second < 18000) (lit : (l : ℕ) → l < length net.link_names → slice_index since l ≡ lit_since (is_green net shown l) (w.second + 1))
+    module _ (early : w.second < most_seconds) (lit : (l : ℕ) → l < length net.link_names → slice_index since l ≡ lit_since (is_green net shown l) (w.second + 1))
         (seen : (n : ℕ) → n < length net.node_names → shown w.second n ≡ slice_index_or signs n Dark) where
       -- what a link discharges at the most; those to which it gives way end at its node, so that nothing of what waits there has left
       rate-at : (l : ℕ) → rate_by net since qs1 w.second l ≡ rate net shown P w.second l

@@ -6,6 +6,7 @@ use Rattle.foundation.specs.Options.{◌>>=◌}
 use Rattle.foundation.proofs.EachLaws.{each-length, each-push}
 use Rattle.foundation.proofs.ListLaws.{All-middle}
 use Rattle.foundation.proofs.OptionLaws.{bind-some, and-some, and-at}
+use Rattle.net_parts.specs.Limits.{most_links}
 use Rattle.net_parts.specs.Numbers.{Net, number_of}
 use Rattle.net_parts.proofs.DraftParts.{number_of-within}
 use Rattle.record_text.specs.Faults.{HasAfterHeader}
@@ -55,7 +56,7 @@ module _ (net : Net) (fields : List (List ℕ)) (number : ℕ) (old new : List (
   refused-row (Err fault) adds = inr (r, is, new, adds)
 
 -- the rows that were taken are few
-pub taken-few : (net : Net) (all : List (List (List ℕ))) → length net.link_names ≤ 320 → AreCounted (HasRead net) all
+pub taken-few : (net : Net) (all : List (List (List ℕ))) → length net.link_names ≤ most_links → AreCounted (HasRead net) all
 taken-few net all links = λ header front here rest reader are taken. omega (arith, links, each-length (parse_in net) front taken.rows taken.reads, storages-count net taken.rows reader.storages.items taken.of_rows)
 
 -- all records were taken

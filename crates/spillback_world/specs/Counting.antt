@@ -13,7 +13,7 @@ use Rattle.spillback_world.specs.Worlds.{SpillState, Stands}
 abbrev pub entered_by : LinkTotals → SpillState → ℕ → ℕ
 entered_by t w l = t.entered + cell w.recent l (w.second + 127)
 
--- what is counted of the link then: what is not on it any more has left
+-- what is counted of a link with that second too: of all that entered it, what it does not hold any more has left, and its queue waited a second
 abbrev pub counted_by : LinkTotals → SpillState → ℕ → LinkTotals
 counted_by t w l = record {
   entered = entered_by t w l;

@@ -13,7 +13,7 @@ ghost use Rattle.spillback_world.specs.StoreRows.{IsStorage};
 
 use crate::searches::room;
 use crate::store::Store;
-use arrivals::Arrivals;
+use arrivals::{Arrivals, next_amount};
 use net_simulator::link_seconds::{outward, waiting_amount};
 use net_simulator::rows;
 use road_net::Network;
@@ -96,10 +96,13 @@ pub(crate) fn let_in(
     ensures all { result ≡ total (comes_of gate.now.store.now held.old outside.old
         (arriving_of gate.now.arrivals.now gate.now.second)) links }
 {
+    let mut coming = gate.arrivals.in_second(gate.second);
     let mut all = 0;
     for l in 0..links {
         let place = l as usize;
-        let waits = outside[place] + gate.arrivals.entering(l, gate.second);
+        let (arriving, later) = next_amount(coming, l);
+        coming = later;
+        let waits = outside[place] + arriving;
         let amount = waits.min(room(gate.store, held, l));
         outside[place] = waits - amount;
         held[place] += amount;

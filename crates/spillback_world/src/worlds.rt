@@ -110,7 +110,7 @@ impl SpillWorld {
         })
     }
 
-    /// The second up to which the world has moved, at most 18,000.
+    /// The second up to which the world has moved, at most 86,400.
     pub fn now(&self) -> u32
         ensures { result ≡ self.now.second }
     {
@@ -209,7 +209,7 @@ impl SpillWorld {
         near_amount(&sight, link, gap)
     }
 
-    /// Moves by `seconds` seconds under these lights, up to second 18,000.
+    /// Moves by `seconds` seconds under these lights, up to second 86,400.
     ///
     /// docs/RULES.md, "Storage".
     pub fn advance<T: Lights>(

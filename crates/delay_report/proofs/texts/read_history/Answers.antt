@@ -15,12 +15,12 @@ take_records-requires-clause-few c = counted-few _ _ (omega (arith, few-records 
 
 pub returns-in_err-take_records-clause-first : goal.returns-in_err-take_records-clause-first
 returns-in_err-take_records-clause-first c =
-    let p = err_from_is_err_and c.from_residual.result c.from_residual.ensures.1 in
+    let p = err_from_is_err_and c.from_residual-in_err-take_records.result c.from_residual-in_err-take_records.ensures.1 in
     rw (p.1, p.2) (first-fault c.args.net.now (records_of c.args.bytes.now) _ c.in_err-take_records.ensures.first)
 
 pub returns-in_err-take_records-clause-refused : goal.returns-in_err-take_records-clause-refused
 returns-in_err-take_records-clause-refused c =
-    IfErr-weaker c.from_residual.result (IsTextFault c.args.net.now c.args.bytes.now) _ (fault-refutes c.args.net.now (records_of c.args.bytes.now)) (returns-in_err-take_records-clause-first c)
+    IfErr-weaker c.from_residual-in_err-take_records.result (IsTextFault c.args.net.now c.args.bytes.now) _ (fault-refutes c.args.net.now (records_of c.args.bytes.now)) (returns-in_err-take_records-clause-first c)
 
 pub returns-then-not-is_over-clause-first : goal.returns-then-not-is_over-clause-first
 returns-then-not-is_over-clause-first c =

@@ -1,4 +1,4 @@
-use Rattle.std.proofs.Common.{◌≡◌, ◌+◌, slice_index, length, ap, sym, ◌∙◌, arith}
+use Rattle.std.proofs.Common.{rules, ◌≡◌, ◌+◌, slice_index, length, ap, sym, ◌∙◌, arith}
 use Rattle.net_parts.specs.Outline.{link_at, turns_at}
 use Rattle.road_net.specs.Joins.{split_of}
 use Rattle.road_net.proofs.TotalLaws.{total-more, total-same}
@@ -24,3 +24,13 @@ returns-clause-out c =
     let whole : c.loop-l.l ≡ length c.args.net.now.link_names = omega (arith, c.links-l-end.ensures.value) in
     let same = total-same (λ m. outward (link_at c.args.net.now m).to (goes_at c.args.net.now c.args.shown.now.signs.now c.args.shown.now.since.now c.args.waits.now c.args.ready.now c.args.second m)) (λ m. outward (link_at c.args.net.now m).to (slice_index c.loop-l.leaving m)) c.loop-l.l (λ m b. ap (outward (link_at c.args.net.now m).to) (sym (c.loop-l.invariant.leaving m b))) in
     rw (← whole) (c.loop-l.invariant.out ∙ same)
+
+pub loop-l-preserved : goal.loop-l-preserved
+loop-l-preserved c = record {
+  leaving = search rules;
+  most = search rules;
+  here = search rules;
+  out = search rules;
+  few = search rules;
+  others = search rules;
+}

@@ -27,4 +27,4 @@ loop-second-preserved c =
     }
 
 pub returns-clause-lawful : goal.returns-clause-lawful
-returns-clause-lawful c = are-rows c.args.net.now c.args.number c.args.rounds c.in_ok-entered.ensures.network.outline.link_count.1 c.requires
+returns-clause-lawful c = are-rows c.args.net.now c.args.number c.args.rounds c.requires.few c.requires.rounds

@@ -1,6 +1,7 @@
 use Rattle.std.proofs.Common.{◌≡◌, ◌+◌, ◌<◌, ◌≤◌, List, length, slice_index, sym, ap, subst, ◌∙◌, arith}
 use Rattle.control_flow.specs.declared.greens.Green.{Green}
 use Rattle.clusters.proofs.SeenLaws.{written}
+use Rattle.net_parts.specs.Limits.{most_seconds}
 use Rattle.net_parts.specs.Outline.{plan_at}
 use Rattle.arrivals.specs.Amounts.{arriving_of}
 use Rattle.net_simulator.specs.Worlds.{line_in, signs_by}
@@ -26,7 +27,7 @@ pub sense_near-requires-clause-world : goal.sense_near-requires-clause-world
 sense_near-requires-clause-world c = spilled-world c.args.net.now c.args.arrivals.now (slice_index c.args.store.now) c.loop-round._round c.loop-round.lines.items c.loop-round.world c.requires.arrivals c.loop-round.invariant.played
 
 pub renew_lines-requires-clause-now : goal.renew_lines-requires-clause-now
-renew_lines-requires-clause-now c = subst (λ s. s ≤ 18000) (sym c.now.ensures) c.loop-round.invariant.played.stands.by
+renew_lines-requires-clause-now c = subst (λ s. s ≤ most_seconds) (sym c.now.ensures) c.loop-round.invariant.played.stands.by
 
 pub renew_lines-requires-clause-near : goal.renew_lines-requires-clause-near
 renew_lines-requires-clause-near c =
@@ -46,10 +47,10 @@ pub advance-requires-clause-second : goal.advance-requires-clause-second
 advance-requires-clause-second c =
     let l = c.loop-round in
     let net = c.args.net.now in
-    let renewed = c.renew_lines.new.lines.items in
-    let are = subst (λ s. AreRenewed net c.as_slice.result.now s (length net.node_names) l.lines.items renewed) c.now.ensures c.in_ok-renew_lines.ensures in
+    let renewed = c.in_ok-lines.lines.items in
+    let are = subst (λ s. AreRenewed net c.as_slice.result.now s (length net.node_names) l.lines.items renewed) c.now.ensures c.in_ok-lines.ensures in
     let less = subst (λ r. l._round < r) c.act_rounds-rounds.ensures.value c.loop-round-test.true in
-    subst (λ s. l.world.second + s ≤ 18000) (sym c.act_step-step.ensures.value)
+    subst (λ s. l.world.second + s ≤ most_seconds) (sym c.act_step-step.ensures.value)
     (room net c.act_rounds-rounds.ensures.network (arriving_of c.args.arrivals.now) (slice_index c.args.store.now) l._round l.lines.items renewed c.as_slice.result.now l.world l.invariant.played are less)
 
 pub advance-requires-clause-stands : goal.advance-requires-clause-stands
@@ -58,8 +59,8 @@ advance-requires-clause-stands c =
     let net = c.args.net.now in
     let arriving = arriving_of c.args.arrivals.now in
     let store = slice_index c.args.store.now in
-    let renewed = c.renew_lines.new.lines.items in
-    let are = subst (λ s. AreRenewed net c.as_slice.result.now s (length net.node_names) l.lines.items renewed) c.now.ensures c.in_ok-renew_lines.ensures in
+    let renewed = c.in_ok-lines.lines.items in
+    let are = subst (λ s. AreRenewed net c.as_slice.result.now s (length net.node_names) l.lines.items renewed) c.now.ensures c.in_ok-lines.ensures in
     subst (λ (lines : List (List Green)). Stands net arriving store (signs_by (line_in lines)) l.world) (sym c.as_slice-in-loop-round.ensures.value)
     (renewed-stands net c.act_rounds-rounds.ensures.network arriving store l._round l.lines.items renewed c.as_slice.result.now l.world l.invariant.played are)
 
@@ -69,11 +70,11 @@ loop-round-preserved c =
     let net = c.args.net.now in
     let arriving = arriving_of c.args.arrivals.now in
     let store = slice_index c.args.store.now in
-    let renewed = c.renew_lines.new.lines.items in
+    let renewed = c.in_ok-lines.lines.items in
     let near = c.as_slice.result.now in
     let count = c.sense_near.ensures.amounts.count in
     let list = written l.near.items c.sense_near.new.near l.near.len (count ∙ sym l.invariant.near) l.near.ok.0 in
-    let are = subst (λ s. AreRenewed net near s (length net.node_names) l.lines.items renewed) c.now.ensures c.in_ok-renew_lines.ensures in
+    let are = subst (λ s. AreRenewed net near s (length net.node_names) l.lines.items renewed) c.now.ensures c.in_ok-lines.ensures in
     let sensed = subst (AreNear net (cumulative_in net arriving store (signs_by (line_in l.lines.items)) l.world.second) l.world.second) (sym (c.as_slice.ensures.value ∙ list)) (c.sense_near.ensures.near arriving store (signs_by (line_in l.lines.items)) l.invariant.played.stands) in
     record {
       near = ap length list ∙ count;

@@ -4,7 +4,7 @@ use Rattle.spillback_control.proofs.RunLaws.{last-lawful, last-safe, last-show}
 use Rattle.spillback_control.proofs.spill_runs.spill_actuated.Goals as goal
 
 pub returns-clause-run : goal.returns-clause-run
-returns-clause-run c = c.in_ok-run.ensures.run.by
+returns-clause-run c = c.in_ok-run.ensures.run.actuated
 
 pub returns-clause-lawful : goal.returns-clause-lawful
 returns-clause-lawful c is = last-lawful c.args.net.now c.law_of_network.ensures (arriving_of c.args.arrivals.now) (slice_index c.args.store.now) c.in_ok-run.run'.totals is

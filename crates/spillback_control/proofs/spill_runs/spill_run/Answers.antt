@@ -14,7 +14,7 @@ play_rounds-requires-clause-first c =
 pub returns-clause-run : goal.returns-clause-run
 returns-clause-run c =
     let run : SpillRun = record { timelines = c.from_vec.result; totals = c.totals.result } in
-    let a = subst (λ lines. HaveSpilled c.args.net.now (arriving_of c.args.arrivals.now) (slice_index c.args.store.now) (act_rounds c.args.net.now) lines c.play_rounds.new.world) (sym c.from_vec.ensures) c.in_ok-play_rounds.ensures in
+    let a = subst (λ lines. HaveSpilled c.args.net.now (arriving_of c.args.arrivals.now) (slice_index c.args.store.now) (act_rounds c.args.net.now) lines c.play_rounds.new.world) (sym c.from_vec.ensures) c.in_ok-lines-2.ensures in
     recorded c.args.net.now c.law_of_network.ensures (arriving_of c.args.arrivals.now) (slice_index c.args.store.now) c.play_rounds.new.world run a c.totals.ensures.value
 
 pub returns-clause-lawful : goal.returns-clause-lawful
@@ -28,10 +28,10 @@ returns-clause-safe c =
     record-safe c.args.net.now c.law_of_network.ensures (arriving_of c.args.arrivals.now) (slice_index c.args.store.now) run (returns-clause-run c)
 
 pub returns-clause-signs : goal.returns-clause-signs
-returns-clause-signs c is = last-show c.args.net.now c.law_of_network.ensures (arriving_of c.args.arrivals.now) (slice_index c.args.store.now) c.totals.result is.by
+returns-clause-signs c is = last-show c.args.net.now c.law_of_network.ensures (arriving_of c.args.arrivals.now) (slice_index c.args.store.now) c.totals.result is.actuated
 
 pub returns-clause-counts : goal.returns-clause-counts
 returns-clause-counts c =
     let run : SpillRun = record { timelines = c.from_vec.result; totals = c.totals.result } in
-    let a = subst (λ lines. HaveSpilled c.args.net.now (arriving_of c.args.arrivals.now) (slice_index c.args.store.now) (act_rounds c.args.net.now) lines c.play_rounds.new.world) (sym c.from_vec.ensures) c.in_ok-play_rounds.ensures in
+    let a = subst (λ lines. HaveSpilled c.args.net.now (arriving_of c.args.arrivals.now) (slice_index c.args.store.now) (act_rounds c.args.net.now) lines c.play_rounds.new.world) (sym c.from_vec.ensures) c.in_ok-lines-2.ensures in
     counted c.args.net.now c.law_of_network.ensures (arriving_of c.args.arrivals.now) (slice_index c.args.store.now) c.play_rounds.new.world run a c.totals.ensures.value

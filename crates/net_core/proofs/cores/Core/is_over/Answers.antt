@@ -10,4 +10,4 @@ returns-then-not-self c =
     subst
     (λ (course : Course). (IsTrue (nat_eq c.self.inside.parts.round c.run-rounds.result.rounds) → (course.spent ≡ false) × IsLawful course.net course.steps) × ((course.spent ≡ false) × IsLawful course.net course.steps → IsTrue (nat_eq c.self.inside.parts.round c.run-rounds.result.rounds)))
     c.self.view_is
-    (over-decides c.self.inside.net.now c.run-rounds.ensures.network c.self.inside.arrivals.now c.self.inside.parts c.self.inside.spent c.self.invariant.sound c.if-not-self.true c.run-rounds.result.rounds (ap (λ (r : Run). r.rounds) c.run-rounds.ensures.value))
+    (over-decides c.self.inside.net.now c.run-rounds.ensures.network c.self.inside.arrivals.now c.self.inside.parts c.self.inside.kept c.self.inside.spent c.self.invariant.sound c.if-not-self.true c.run-rounds.result.rounds (ap (λ (r : Run). r.rounds) c.run-rounds.ensures.value))

@@ -8,5 +8,5 @@ returns c =
     let fresh : c.self.inside.spent ≡ false = ap (λ (course : Course). course.spent) c.self.view_is ∙ c.requires.spent in
     let below : c.args.node < length c.self.inside.net.now.node_names = subst (λ (course : Course). c.args.node < length course.net.node_names) (sym c.self.view_is) c.requires.node in
     subst (λ (course : Course). IsWanted course.net course.steps c.args.node c.want.result) c.self.view_is
-    (subst (IsWanted c.self.inside.net.now c.self.inside.parts.history.items c.args.node) (sym c.want.ensures)
-    (next-wanted c.self.inside.net.now c.law_of_network.ensures c.self.inside.arrivals.now c.self.inside.parts c.self.inside.spent c.self.invariant.sound fresh c.args.node c.index.result.now below c.index.ensures))
+    (subst (IsWanted c.self.inside.net.now c.self.inside.kept.history.items c.args.node) (sym c.want.ensures)
+    (next-wanted c.self.inside.net.now c.law_of_network.ensures c.self.inside.arrivals.now c.self.inside.parts c.self.inside.kept c.self.inside.spent c.self.invariant.sound fresh c.args.node c.index.result.now below c.index.ensures))

@@ -17,14 +17,14 @@ returns-then-is_done-clause-fault g c =
     let below : c.args.node < length c.self.inside.net.now.node_names = omega (arith, c.nodes.ensures.value) in
     let other : c.self.inside.parts.round ≢ c.self.inside.net.now.run.rounds = λ e. c.if-self-run.false (e ∙ sym (ap (λ (r : Run). r.rounds) c.run.ensures.value)) in
     subst (λ (course : Course). HasNoTurn course c.args.node) c.self.view_is
-    (no-turn c.self.inside.net.now c.nodes.ensures.network c.self.inside.arrivals.now c.self.inside.parts c.self.inside.spent c.self.invariant.sound c.if-self.false c.args.node c.index.result.now below c.index.ensures other (sym c.want.ensures ∙ c.is_done.ensures.0 c.if-is_done.true))
+    (no-turn c.self.inside.net.now c.nodes.ensures.network c.self.inside.arrivals.now c.self.inside.parts c.self.inside.kept c.self.inside.spent c.self.invariant.sound c.if-self.false c.args.node c.index.result.now below c.index.ensures other (sym c.want.ensures ∙ c.is_done.ensures.0 c.if-is_done.true))
 
 pub returns-in-Ok-clause-may : goal.returns-in-Ok-clause-may
 returns-in-Ok-clause-may g c =
     subst (λ (course : Course). MayStep course c.args.node) c.self.view_is
-    (may-step c.self.inside.net.now c.nodes.ensures.network c.self.inside.arrivals.now c.self.inside.parts c.self.inside.spent c.self.invariant.sound c.if-self.false c.args.node c.index.result.now (omega (arith, c.nodes.ensures.value)) c.index.ensures (wants-more c.index.result.now c.want.result c.is_done.result c.want.ensures c.if-is_done.false c.is_done.ensures.1))
+    (may-step c.self.inside.net.now c.nodes.ensures.network c.self.inside.arrivals.now c.self.inside.parts c.self.inside.kept c.self.inside.spent c.self.invariant.sound c.if-self.false c.args.node c.index.result.now (omega (arith, c.nodes.ensures.value)) c.index.ensures (wants-more c.index.result.now c.want.result c.is_done.result c.want.ensures c.if-is_done.false c.is_done.ensures.1))
 
 pub returns-in-Err-clause-fault : goal.returns-in-Err-clause-fault
 returns-in-Err-clause-fault g c =
     subst (λ (course : Course). MayStep course c.args.node) c.self.view_is
-    (may-step c.self.inside.net.now c.nodes.ensures.network c.self.inside.arrivals.now c.self.inside.parts c.self.inside.spent c.self.invariant.sound c.if-self.false c.args.node c.index.result.now (omega (arith, c.nodes.ensures.value)) c.index.ensures (wants-more c.index.result.now c.want.result c.is_done.result c.want.ensures c.if-is_done.false c.is_done.ensures.1))
+    (may-step c.self.inside.net.now c.nodes.ensures.network c.self.inside.arrivals.now c.self.inside.parts c.self.inside.kept c.self.inside.spent c.self.invariant.sound c.if-self.false c.args.node c.index.result.now (omega (arith, c.nodes.ensures.value)) c.index.ensures (wants-more c.index.result.now c.want.result c.is_done.result c.want.ensures c.if-is_done.false c.is_done.ensures.1))

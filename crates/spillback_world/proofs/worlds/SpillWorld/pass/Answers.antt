@@ -1,6 +1,7 @@
-use Rattle.std.proofs.Common.{ℕ, List, length, slice_index, sym, ap, subst, ◌∙◌, arith}
+use Rattle.std.proofs.Common.{ℕ, List, length, slice_index, slice_index_or, sym, ap, subst, ◌∙◌, arith}
 use Rattle.std.proofs.lemmas.List.{with_items_is}
 use Rattle.arrivals.specs.Amounts.{arriving_of}
+use Rattle.control_flow.specs.declared.greens.Sign.TheVariants.{Dark}
 use Rattle.net_simulator.specs.Worlds.{signs_by}
 use Rattle.net_simulator.proofs.EveryWorld.{bounds-of}
 use Rattle.net_simulator.proofs.LightLaws.{are-lit, lit-after}
@@ -19,6 +20,11 @@ look-requires-clause-lit g c none =
 
 pub look-requires-clause-walks : goal.look-requires-clause-walks
 look-requires-clause-walks g c = ap (λ w. w.walks) c.self.view_is ∙ c.requires.stands.shape.walks
+
+pub pass_second-self-inside-requires-clause-signs : goal.pass_second-self-inside-requires-clause-signs
+pass_second-self-inside-requires-clause-signs g c n h =
+    let signs = c.as_slice.ensures.value ∙ with_items_is c.self.inside.signs c.look.new.signs (c.look.auto.signs ∙ ap length c.as_mut_slice.ensures.value ∙ sym c.self.inside.signs.ok.0) in
+    ap (λ gs. slice_index_or gs n Dark) signs ∙ c.look.ensures.signs n h
 
 pub pass_second-self-inside-requires-clause-since : goal.pass_second-self-inside-requires-clause-since
 pass_second-self-inside-requires-clause-since g c l h =

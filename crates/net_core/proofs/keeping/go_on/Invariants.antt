@@ -1,11 +1,11 @@
 use Rattle.std.proofs.Common.{◌≡◌, ◌-◌}
-use Rattle.net_core.specs.States.{AreInRound}
-use Rattle.net_core.proofs.stepping.go_on.Given as goal
+use Rattle.net_core.specs.States.{IsPlaying}
+use Rattle.net_core.proofs.keeping.go_on.Given as goal
 
 abbrev pub invariant-rounds : goal.invariant-rounds
 invariant-rounds g l = record {
-  in_round : AreInRound l.net l.arrivals l.parts;
-  history : l.parts.history ≡ l.initial.parts.history;
+  playing : IsPlaying l.net l.arrivals l.parts l.kept;
+  history : l.kept.history ≡ l.initial.kept.history;
 }
 
 abbrev pub decreases-rounds : goal.decreases-rounds
