@@ -3,7 +3,7 @@ use Rattle.std.proofs.Common.{rules, ◌≡◌, ℕ, List, [], ◌∷◌, true, 
 use Rattle.std.proofs.lemmas.Bool.{false≢true}
 use Rattle.std.proofs.lemmas.Fmt.{decimal_injective}
 use Rattle.std.specs.Str.{bytes_eq}
-use Rattle.command_words.specs.Calls.{Actuate, Audit, Bounds, BoundsFixed, Call, IsCall, Certify, CertifyBound, CertifyPar, Check, Compare, CompareFixed, Decide, DecideNode, Fixed, Grid, Instance, Net, Plan, Queues, Replay, Scale, Spill, SpillActuated, Turns, Upgrade, words_of}
+use Rattle.command_words.specs.Calls.{Actuate, Audit, Bounds, BoundsFixed, Call, IsCall, Certify, CertifyBound, CertifyPar, Check, Compare, CompareFixed, Decide, DecideNode, Fixed, Grid, Instance, Net, Plan, Queues, Replay, Scale, Spill, SpillActuated, Totals, Turns, Upgrade, words_of}
 
 -- the first word
 first : List (List ℕ) → List ℕ
@@ -33,6 +33,7 @@ one_call words (CertifyPar f w) (CertifyPar g v) is other =
     cc
 one_call words (Check f) (Check g) is other = let e = is.words_are in let d = other.words_are in cc
 one_call words (Turns n a) (Turns m b) is other = let e = is.words_are in let d = other.words_are in cc
+one_call words (Totals n a) (Totals m b) is other = let e = is.words_are in let d = other.words_are in cc
 one_call words (Replay n a h) (Replay m b i) is other = let e = is.words_are in let d = other.words_are in cc
 one_call words (Net n a) (Net m b) is other = let e = is.words_are in let d = other.words_are in cc
 one_call words (Instance n a h k r) (Instance m b i l q) is other =

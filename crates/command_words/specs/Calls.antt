@@ -15,6 +15,7 @@ pub data Call : Type 0 where
   CertifyPar : (file : List ℕ) → (width : ℕ) → Call
   Check : (file : List ℕ) → Call
   Turns : (net arr : List ℕ) → Call
+  Totals : (net arr : List ℕ) → Call
   Replay : (net arr hist : List ℕ) → Call
   Net : (net arr : List ℕ) → Call
   Instance : (net arr hist node : List ℕ) → (round : ℕ) → Call
@@ -42,6 +43,7 @@ words_of (CertifyBound file) = codes "certify_bound" ∷ file ∷ []
 words_of (CertifyPar file width) = codes "certify_par" ∷ file ∷ decimal width ∷ []
 words_of (Check file) = codes "check" ∷ file ∷ []
 words_of (Turns net arr) = codes "turns" ∷ net ∷ arr ∷ []
+words_of (Totals net arr) = codes "totals" ∷ net ∷ arr ∷ []
 words_of (Replay net arr hist) = codes "replay" ∷ net ∷ arr ∷ hist ∷ []
 words_of (Net net arr) = codes "net" ∷ net ∷ arr ∷ []
 words_of (Instance net arr hist node round) = codes "instance" ∷ net ∷ arr ∷ hist ∷ node ∷ decimal round ∷ []
@@ -85,6 +87,7 @@ IsOfControllers _ = ⊥
 -- a command over a network, and what enters it or a state of it
 abbrev pub IsOverNetwork : Call → Type 0
 IsOverNetwork (Turns net arr) = Unit {0}
+IsOverNetwork (Totals net arr) = Unit {0}
 IsOverNetwork (Replay net arr hist) = Unit {0}
 IsOverNetwork (Net net arr) = Unit {0}
 IsOverNetwork (Instance net arr hist node round) = Unit {0}
@@ -105,6 +108,7 @@ call_of (command.CertifyBound file) = CertifyBound file.now
 call_of (command.CertifyPar file width) = CertifyPar file.now width
 call_of (command.Check file) = Check file.now
 call_of (command.Turns net arr) = Turns net.now arr.now
+call_of (command.Totals net arr) = Totals net.now arr.now
 call_of (command.Replay net arr hist) = Replay net.now arr.now hist.now
 call_of (command.Net net arr) = Net net.now arr.now
 call_of (command.Instance net arr hist node round) = Instance net.now arr.now hist.now node.now round

@@ -40,6 +40,11 @@ pub enum Command<'a> {
         net: &'a str,
         arr: &'a str,
     },
+    /// Writes what the run of the turn order counted, of each link and in all.
+    Totals {
+        net: &'a str,
+        arr: &'a str,
+    },
     /// Writes the report of the run of a history.
     Replay {
         net: &'a str,
@@ -193,6 +198,10 @@ fn network_command<'a>(word: &str, rest: &'a [Text]) -> Option<Command<'a>>
         "turns" => {
             let (net, arr) = two_words(rest)?;
             Some(Command::Turns { net, arr })
+        }
+        "totals" => {
+            let (net, arr) = two_words(rest)?;
+            Some(Command::Totals { net, arr })
         }
         "replay" => {
             let (net, arr, hist) = three_words(rest)?;

@@ -21,11 +21,11 @@ use Rattle.net_simulator.specs.Worlds.{line_in}
 use Rattle.queue_series.specs.Series.{IsSeries}
 use Rattle.net_file.specs.Upgrade.{IsUpgraded}
 use Rattle.signal_safety.specs.Safe.{IsSafe}
-use Rattle.command_words.specs.Calls.{Actuate, Audit, Bounds, BoundsFixed, Call, Certify, CertifyBound, CertifyPar, Check, Compare, CompareFixed, Decide, DecideNode, Fixed, Grid, Instance, Net, Plan, Queues, Replay, Scale, Spill, SpillActuated, Turns, Upgrade}
+use Rattle.command_words.specs.Calls.{Actuate, Audit, Bounds, BoundsFixed, Call, Certify, CertifyBound, CertifyPar, Check, Compare, CompareFixed, Decide, DecideNode, Fixed, Grid, Instance, Net, Plan, Queues, Replay, Scale, Spill, SpillActuated, Totals, Turns, Upgrade}
 use Rattle.commands.specs.Answers.{answer_text}
 use Rattle.commands.specs.Bounds.{bounds_text, fixed_bounds_text}
 use Rattle.commands.specs.Controllers.{BringTooMuch, IsActuatedReport, IsComparison, IsComparisonWith, IsFixedReport, IsScaleTable, factors}
-use Rattle.commands.specs.Headline.{Headline, IsGridSummary, IsPlannedText, ToldHeadline}
+use Rattle.commands.specs.Headline.{Headline, IsGridSummary, IsPlannedText, IsTotalsText, ToldHeadline}
 use Rattle.commands.specs.Kinds.{ArrivalsText, CertificateText, HistoryText, InstanceText, IsCertificateText, NetworkText, PlanText, SheetText, StateText, StoreText, node_state_of}
 use Rattle.commands.specs.Limits.{most_bytes}
 use Rattle.commands.specs.Rounds.{IsDecisionText, IsNodeDecisionText}
@@ -43,6 +43,7 @@ texts_of (CertifyBound file) = Next InstanceText file (λ said. NoMore)
 texts_of (CertifyPar file width) = Next InstanceText file (λ said. NoMore)
 texts_of (Check file) = Next CertificateText file (λ said. NoMore)
 texts_of (Turns net arr) = two_texts ArrivalsText net arr
+texts_of (Totals net arr) = two_texts ArrivalsText net arr
 texts_of (Replay net arr hist) = three_texts HistoryText net arr hist
 texts_of (Net net arr) = two_texts ArrivalsText net arr
 texts_of (Instance net arr hist node round) = three_texts HistoryText net arr hist
@@ -85,6 +86,7 @@ IsTextOf (CertifyBound file) said bytes = (c : Claim) × (c.problem ≡ said.0) 
 IsTextOf (CertifyPar file width) said bytes = IsWholeCertificate said.0 bytes
 IsTextOf (Check file) said bytes = Proves said.0 × IsLeast said.0.problem said.0.answer × (bytes ≡ accepted_line)
 IsTextOf (Turns net arr) said bytes = Headline said.0 said.1.0 (turn_order said.0) bytes
+IsTextOf (Totals net arr) said bytes = IsTotalsText said.0 said.1.0 bytes
 IsTextOf (Replay net arr hist) said bytes = Headline said.0 said.1.0 said.1.1.0 bytes
 IsTextOf (Net net arr) said bytes = ToldHeadline said.0 said.1.0 bytes
 IsTextOf (Instance net arr hist node round) said bytes = IsPlannedText said.0 said.1.0 said.1.1.0 node round bytes

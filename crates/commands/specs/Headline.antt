@@ -9,12 +9,16 @@ use Rattle.histories.specs.Histories.{IsLawful, turn_order}
 use Rattle.intersection_actor.specs.declared.records.PlanRecord.{PlanRecord}
 use Rattle.net_parts.specs.Numbers.{Net, number_of}
 use Rattle.runs.specs.Promises.{IsKeptRun}
+use Rattle.runs.specs.Tallies.{AreTotalsOf, IsTally, IsTallyOf}
+use Rattle.runs.specs.declared.plan_tallies.PlanTally.{PlanTally}
 use Rattle.runs.specs.declared.records.RunRecord.{RunRecord}
+use Rattle.runs.specs.declared.records.RunTotals.{RunTotals}
 use Rattle.scenario_gen.specs.Grids.{IsGrid}
 use Rattle.schedule_meaning.specs.Best.{IsLeast}
 use Rattle.schedule_meaning.specs.Instances.{Problem}
 use Rattle.schedule_meaning.specs.declared.planners.Answer.{Answer}
 use Rattle.schedule_meaning.specs.declared.planners.Answer.TheVariants.{Plan, NoPlan}
+use Rattle.world_records.specs.Records.{counted_text}
 use Rattle.commands.specs.Kinds.{InstanceText}
 use Rattle.commands.specs.Texts.{Reads}
 use Rattle.commands.specs.Summary.{summary_text}
@@ -43,6 +47,20 @@ pub record ToldHeadline (net : Net) (arriving : ℕ → ℕ → ℕ) (bytes : Li
   pub headline : Headline net arriving history bytes
   pub is_text : IsHistoryText net bytes history
   pub only : (other : List ℕ) → IsHistoryText net bytes other → other ≡ history
+
+-- There is a run of the turn order, with all that it keeps: this is left of it, and this is counted of its plans, which are not kept.
+pub record AreTurnTotals (net : Net) (arriving : ℕ → ℕ → ℕ) (left : RunTotals) (tally : PlanTally) : Type 0 where
+  pub run : RunRecord
+  pub runs : IsRunOf net arriving (turn_order net) run
+  pub are : AreTotalsOf run left
+  pub counted : IsTallyOf run.plans tally
+  pub bounds : IsTally tally
+
+-- The bytes are the records of what the run of the turn order counted, of each link and in all, as they end its report.
+pub record IsTotalsText (net : Net) (arriving : ℕ → ℕ → ℕ) (bytes : List ℕ) : Type 0 where
+  pub run : RunRecord
+  pub runs : IsRunOf net arriving (turn_order net) run
+  pub text : bytes ≡ counted_text net run.links run.totals
 
 -- one answer says what the other says: both plan with one delay, or both plan nothing
 abbrev pub AgreesWith : Answer → Answer → Type 0

@@ -59,6 +59,6 @@ pub record IsSpillReport (net : Net) (arriving : ℕ → ℕ → ℕ) (store : L
   pub runs : IsSpillRun net arriving (slice_index store) run
   pub lawful : AreLawful net run.timelines
   pub safe : IsSafe net (line_in run.timelines)
-  pub signs : LastLinesShow net runs.by.made
+  pub signs : LastLinesShow net runs.actuated.made
   pub counts : CountsLastLines net arriving (slice_index store) run
   pub report : bytes ≡ line_text net (spill_sheet net arriving store run)

@@ -1,29 +1,12 @@
 -- The summary of a run.
-use Rattle.std.specs.Prelude.{ℕ, Bool, true, false, List, [], ◌∷◌, ◌++◌, codes, count_by, length, map, sum_by}
+use Rattle.std.specs.Prelude.{ℕ, List, [], ◌∷◌, ◌++◌, codes, length, map}
 use Rattle.std.specs.Fmt.{decimal}
-use Rattle.intersection_actor.specs.declared.records.PlanRecord.{PlanRecord}
 use Rattle.net_simulator.specs.declared.totals.Totals.{Totals}
 use Rattle.text_lines.specs.Lines.{line}
+use Rattle.runs.specs.Tallies.{none_count, planned_delays}
+use Rattle.runs.specs.declared.plan_tallies.PlanTally.{PlanTally}
 use Rattle.runs.specs.declared.records.RunRecord.{RunRecord}
 use Rattle.spillback_world.specs.declared.totals.SpillTotals.{SpillTotals}
-use Rattle.schedule_meaning.specs.declared.planners.Answer.{Answer}
-use Rattle.schedule_meaning.specs.declared.planners.Answer.TheVariants.{Plan, NoPlan}
-
--- whether an answer is no plan, and the delay that it plans
-abbrev pub is_no_plan : Answer → Bool
-is_no_plan NoPlan = true
-is_no_plan (Plan sequence delay) = false
-
-abbrev pub planned_delay : Answer → ℕ
-planned_delay NoPlan = 0
-planned_delay (Plan sequence delay) = delay
-
--- how many of the plans are none, and the delays of the others together
-abbrev pub none_count : List PlanRecord → ℕ
-none_count plans = count_by (λ (plan : PlanRecord). is_no_plan plan.answer) plans
-
-abbrev pub planned_delays : List PlanRecord → ℕ
-planned_delays plans = sum_by (λ (plan : PlanRecord). planned_delay plan.answer) plans
 
 -- A line of a word and numbers.
 abbrev pub number_line : List ℕ → List ℕ → List ℕ
@@ -47,10 +30,15 @@ scale_line factor of_plans of_calls = line (decimal factor ∷ codes "planned" �
 
 -- The five lines: what was asked for, how many plans there are, how many of them are none, the delays that the others plan, and what
 -- was counted in all.
+abbrev pub summary_lines : ℕ → ℕ → ℕ → PlanTally → Totals → List ℕ
+summary_lines number side rounds tally totals =
+    number_line (codes "grid") (number ∷ side ∷ rounds ∷ [])
+    ++ number_line (codes "plans") (tally.plans ∷ [])
+    ++ number_line (codes "none") (tally.none ∷ [])
+    ++ number_line (codes "delay") (tally.delay ∷ [])
+    ++ totals_line (codes "total") totals
+
+-- those of a run
 abbrev pub summary_text : ℕ → ℕ → ℕ → RunRecord → List ℕ
 summary_text number side rounds run =
-    number_line (codes "grid") (number ∷ side ∷ rounds ∷ [])
-    ++ number_line (codes "plans") (length run.plans ∷ [])
-    ++ number_line (codes "none") (none_count run.plans ∷ [])
-    ++ number_line (codes "delay") (planned_delays run.plans ∷ [])
-    ++ totals_line (codes "total") run.totals
+    summary_lines number side rounds (record { plans = length run.plans; none = none_count run.plans; delay = planned_delays run.plans }) run.totals

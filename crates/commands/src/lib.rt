@@ -12,7 +12,7 @@ mod texts;
 mod totals;
 
 pub use ending::{Made, end};
-pub use kept_runs::{kept_run, run_of_turns};
+pub use kept_runs::{kept_run, turn_totals};
 pub use refusals::{Named, Refusal, TextPlace, refuse};
 pub use scenes::{
     NetworkWith, Scene, SceneWith, fetch_network_with, fetch_node_state, fetch_scene,

@@ -1,3 +1,5 @@
 pub mod Decided
 mod FactorLaws
+mod GatherLaws
 mod LineLaws
+mod ServeLaws

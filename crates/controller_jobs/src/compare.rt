@@ -8,7 +8,7 @@ ghost use Rattle.commands.specs.Outcome.{Outcome};
 
 use super::actuate::actuated_run;
 use arrivals::Arrivals;
-use commands::{Made, Refusal, Status, end, fetch_scene, push_totals, run_of_turns};
+use commands::{Made, Refusal, Status, end, fetch_scene, push_totals, turn_totals};
 use net_simulator::Totals;
 use outside_world::{Shelf, Sink};
 use road_net::Network;
@@ -23,8 +23,8 @@ pub(crate) fn planned_totals(
     requires { AreArrivals net.now arrivals.now }
     ensures { IfOk result (ArePlannedTotals net.now (arriving_of arrivals.now)) }
 {
-    let run = run_of_turns(alloc, net, arrivals)?;
-    Ok(run.totals)
+    let (left, _) = turn_totals(alloc, net, arrivals)?;
+    Ok(left.totals)
 }
 
 /// The totals of the run under actuated control. `Err`: out of memory.

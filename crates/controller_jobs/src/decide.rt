@@ -18,8 +18,12 @@ use round_decisions::{decide, decide_node, decision_text, node_decision_text};
 use round_states::{Asked, RoundState};
 use std::alloc::{AllocError, Global};
 
-// The text of the decision of the round of a state.
-fn decided_text(alloc: Global, net: &Network, state: RoundState) -> Result<Vec<u8>, AllocError>
+/// The text of the decision of the round of a state.
+pub(crate) fn decided_text(
+    alloc: Global,
+    net: &Network,
+    state: RoundState,
+) -> Result<Vec<u8>, AllocError>
     requires { IsStateOf net.now Asked.AllNodes state }
     ensures { IfOk result (λ text. IsDecisionText net.now state text.items) }
 {
@@ -30,8 +34,8 @@ fn decided_text(alloc: Global, net: &Network, state: RoundState) -> Result<Vec<u
     Ok(text)
 }
 
-// The text of what the node with this number decides in the round of a state.
-fn turn_text(
+/// The text of what the node with this number decides in the round of a state.
+pub(crate) fn turn_text(
     alloc: Global,
     net: &Network,
     state: RoundState,

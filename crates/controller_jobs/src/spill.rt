@@ -12,7 +12,7 @@ ghost use Rattle.net_simulator.specs.Worlds.{line_in, signs_by};
 ghost use Rattle.runs.specs.declared.records.RunRecord.{RunRecord};
 
 use arrivals::Arrivals;
-use commands::{Made, Refusal, SceneWith, Status, end, fetch_scene_with, run_of_turns};
+use commands::{Made, Refusal, SceneWith, Status, end, fetch_scene_with, turn_totals};
 use net_simulator::Lines;
 use outside_world::{Shelf, Sink};
 use road_net::Network;
@@ -34,9 +34,9 @@ fn planned_totals(
         × IsRunOf net.now (arriving_of arrivals.now) (turn_order net.now) run
         × (t ≡ spilled_under net.now (arriving_of arrivals.now) store.now (signs_by (line_in run.timelines)))) }
 {
-    let run = run_of_turns(alloc, net, arrivals)?;
+    let (left, _) = turn_totals(alloc, net, arrivals)?;
     let lines = Lines {
-        all: run.timelines.as_slice(),
+        all: left.timelines.as_slice(),
     };
     let totals = spill_lines(alloc, net, arrivals, store, &lines)?;
     Ok(totals)

@@ -1,4 +1,4 @@
-pub mod Delays
+pub mod GridPlans
 pub mod Headlines
 pub mod Missed
 pub mod Planned

@@ -1,9 +1,9 @@
--- The text of a planned instance.
+-- What is written of runs: the text of an instance that was planned, a summary, and totals.
 use Rattle.std.proofs.Common.{◌≡◌, ℕ, ◌≤◌, List, [], ◌++◌, length, IfSome, Option, Some, Result, Ok, Err, IfOk, sym, ap, subst, ◌∙◌, arith}
 use Rattle.std.specs.Prelude.{Contains}
 use Rattle.std.proofs.lemmas.List.Elements.{All-contains}
+use Rattle.std.proofs.lemmas.List.FromFn.{length-map-range_with_len}
 use Rattle.std.proofs.lemmas.List.Sums.{sum-map}
-use Rattle.histories.specs.Histories.{turn_order}
 use Rattle.arrivals.specs.Amounts.{Amounts, arriving_of}
 use Rattle.instance_form.specs.InstanceText.{instance_text}
 use Rattle.instance_form.proofs.FormLaws.{text_once}
@@ -21,8 +21,15 @@ use Rattle.schedule_meaning.specs.declared.planners.Answer.TheVariants.{Plan, No
 use Rattle.commands.specs.Limits.{most_bytes}
 use Rattle.commands.specs.Kinds.{InstanceText}
 use Rattle.commands.specs.Texts.{Reads}
-use Rattle.commands.specs.Headline.{AgreesWith, IsGridSummary, IsPlannedText, IsRunOf}
-use Rattle.commands.specs.Summary.{summary_text}
+use Rattle.net_simulator.specs.Sums.{end_of_run, link_totals}
+use Rattle.net_simulator.specs.declared.totals.LinkTotals.{LinkTotals}
+use Rattle.runs.specs.Runs.{cumulative_by}
+use Rattle.runs.specs.Tallies.{none_count, planned_delays}
+use Rattle.runs.specs.declared.plan_tallies.PlanTally.{PlanTally}
+use Rattle.runs.specs.declared.records.RunTotals.{RunTotals}
+use Rattle.world_records.specs.Records.{counted_text}
+use Rattle.commands.specs.Headline.{AgreesWith, AreTurnTotals, IsGridSummary, IsPlannedText, IsRunOf, IsTotalsText}
+use Rattle.commands.specs.Summary.{summary_lines}
 
 -- two answers of an instance than which no sequence has less delay agree
 agree : (p : Problem) (a b : Answer) → IsLeast p a → IsLeast p b → AgreesWith a b
@@ -74,7 +81,31 @@ all_planned text_of net arrivals history number round run plan (Ok x) runs among
 all_planned text_of net arrivals history number round run plan (Err e) runs among of_node of_round lawful is = tt
 
 -- the summary of a run of the turn order on a grid
-pub all_summed : {X E : Type 0} (text_of : X → List ℕ) (number side rounds : ℕ) (net : Net) (arrivals : Amounts) (run : RunRecord) (result : Result X E) → IsGrid number side rounds net arrivals
-    → IsRunOf net (arriving_of arrivals) (turn_order net) run → IfOk result (λ x. text_of x ≡ summary_text number side rounds run) → IfOk result (λ x. IsGridSummary number side rounds (text_of x))
-all_summed text_of number side rounds net arrivals run (Ok x) grid runs summary = record { net = net; arrivals = arrivals; grid = grid; run = run; runs = runs; summary = summary }
-all_summed text_of number side rounds net arrivals run (Err e) grid runs summary = tt
+pub all_summed : {X E : Type 0} (text_of : X → List ℕ) (number side rounds : ℕ) (net : Net) (arrivals : Amounts) (left : RunTotals) (tally : PlanTally) (result : Result X E) → IsGrid number side rounds net arrivals
+    → AreTurnTotals net (arriving_of arrivals) left tally → IfOk result (λ x. text_of x ≡ summary_lines number side rounds tally left.totals) → IfOk result (λ x. IsGridSummary number side rounds (text_of x))
+all_summed text_of number side rounds net arrivals left tally (Ok x) grid turns summary =
+    let same : tally ≡ record { plans = length turns.run.plans; none = none_count turns.run.plans; delay = planned_delays turns.run.plans } = λ i. record { plans = turns.counted.plans i; none = turns.counted.none i; delay = turns.counted.delay i } in
+    record {
+      net = net;
+      arrivals = arrivals;
+      grid = grid;
+      run = turns.run;
+      runs = turns.runs;
+      summary = summary ∙ (λ i. summary_lines number side rounds (same i) (turns.are.totals i));
+    }
+all_summed text_of number side rounds net arrivals left tally (Err e) grid turns summary = tt
+
+-- the records of what a run of the turn order counted
+pub all_counted : {X E : Type 0} (text_of : X → List ℕ) (net : Net) (arriving : ℕ → ℕ → ℕ) (left : RunTotals) (tally : PlanTally) (links : List LinkTotals) → links ≡ left.links → (result : Result X E) → AreTurnTotals net arriving left tally
+    → IfOk result (λ x. text_of x ≡ counted_text net links left.totals) → IfOk result (λ x. IsTotalsText net arriving (text_of x))
+all_counted text_of net arriving left tally links same (Ok x) turns text =
+    let own : links ≡ turns.run.links = same ∙ turns.are.links in
+    record { run = turns.run; runs = turns.runs; text = text ∙ (λ i. counted_text net (own i) (turns.are.totals i)) }
+all_counted text_of net arriving left tally links same (Err e) turns text = tt
+
+-- there are totals of each link
+pub all_links : (net : Net) (arriving : ℕ → ℕ → ℕ) (left : RunTotals) (tally : PlanTally) → AreTurnTotals net arriving left tally → length left.links ≡ length net.link_names
+all_links net arriving left tally turns =
+    let by = turns.runs.kept.run in
+    ap length turns.are.links ∙ ap length by.by.links
+    ∙ length-map-range_with_len (link_totals net (cumulative_by net arriving by.made (end_of_run net)) (end_of_run net)) 0 (length net.link_names)

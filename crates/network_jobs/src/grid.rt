@@ -9,7 +9,7 @@ ghost use Rattle.commands.specs.Headline.{IsGridSummary};
 ghost use Rattle.commands.specs.Outcome.{Outcome};
 
 use super::summary::summary;
-use commands::{Made, Refusal, Status, end, run_of_turns};
+use commands::{Made, Refusal, Status, end, turn_totals};
 use outside_world::Sink;
 use scenario_gen::grid;
 use std::alloc::{AllocError, Global};
@@ -26,8 +26,8 @@ fn summary_of_grid(
     ensures { IfOk result (λ text. IsGridSummary number side rounds text.items) }
 {
     let (network, arrivals) = grid(alloc, number, side, rounds)?;
-    let run = run_of_turns(alloc, &network, &arrivals)?;
-    summary(alloc, number, side, rounds, &run)
+    let (left, tally) = turn_totals(alloc, &network, &arrivals)?;
+    summary(alloc, number, side, rounds, &tally, &left.totals)
 }
 
 // Wraps `summary_of_grid` as a command's result; reads no file.

@@ -11,12 +11,12 @@ ghost use Rattle.snap_boards.specs.Boards.{shared_of};
 ghost use Rattle.commands.specs.Headline.{ToldHeadline};
 ghost use Rattle.network_jobs.specs.Merged.{HaveLawfulMerge, IsRunOfMerge, IsTextOfMerge};
 
-use super::calls::calls_for_pass;
 use arrivals::Arrivals;
 use board_model::{BoardLog, Gate};
 use delay_report::{join_report, law_of_reports, render_outcome, render_steps};
 use histories::merge;
 use net_threads::{link_ends, run_rounds_snap};
+use node_rounds::node_calls;
 use pruned_dp::BoundPlanner;
 use road_net::{Network, law_of_network};
 use runs::{RunRecord, law_of_runs};
@@ -32,7 +32,8 @@ struct LoggedRun {
     logs: Vec<BoardLog>,
 }
 
-/// New boards for the links of a network, whose ends are its nodes, and new passes at them, one for each node, with calls for all rounds.
+/// New boards for the links of a network, whose ends are its nodes, and new passes at them, one for each node, with the calls of all
+/// its rounds.
 fn open_boards<R: Wait>(
     rt: &R,
     alloc: Global,
@@ -45,9 +46,10 @@ fn open_boards<R: Wait>(
     ensures fresh { IfOk result (λ r. All (λ p. p.calls ≡ []) r.1.items) }
     ensures left { IfOk result (λ r. HaveCallsLeft net.now r.1.items) }
 {
+    law_of_network(net);
     let ends = link_ends(alloc, net)?;
-    let calls = calls_for_pass(net);
-    let (boards, passes) = SnapBoards::new(rt, alloc, ends.as_slice(), net.nodes(), calls)?;
+    let calls = node_calls(alloc, net)?;
+    let (boards, passes) = SnapBoards::new(rt, alloc, ends.as_slice(), calls.as_slice())?;
     Ok((boards, passes))
 }
 

@@ -1,5 +1,8 @@
 pub mod Shelf
 pub mod Sink
+pub mod Source
+pub mod Keeping
 pub mod MemoryShelf
 pub mod MemorySink
+pub mod MemorySource
 pub mod StreamSink

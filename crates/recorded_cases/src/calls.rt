@@ -3,8 +3,8 @@ use crate::counted::Counted;
 use board_model::OpenGate;
 use foundation::items::Items;
 use foundation::text::Text;
-use outside_world::{MemoryShelf, MemorySink, SinkFail};
-use signal_cli::signal;
+use outside_world::{MemoryShelf, MemorySink, MemorySource, SinkFail};
+use signal_cli::{serve, served_network, signal};
 use std::alloc::{AllocError, Global};
 use std::sync::Wait;
 use std::thread::Threads;
@@ -51,7 +51,10 @@ impl Ending {
     }
 }
 
-/// Calls the program with these words over these files.
+/// The name of the file that is what a call reads from standard input.
+const INPUT: &str = "stdin";
+
+/// Calls the program with these words over these files, of which `stdin` is its input.
 pub(crate) fn call<R: Threads + Wait + Sync>(
     rt: &R,
     alloc: Global,
@@ -60,10 +63,14 @@ pub(crate) fn call<R: Threads + Wait + Sync>(
     failing: Failing,
 ) -> Result<Ending, AllocError> {
     let fetches = Vec::from_slice(alloc, &[failing.fetch])?;
+    let mut source = MemorySource::new(input_of(alloc, &files)?, Vec::new(alloc));
     let mut shelf = Counted::new(MemoryShelf::new(alloc, files, fetches));
     let mut out = sink(alloc, failing.out)?;
     let mut err = sink(alloc, failing.err)?;
-    let status = signal(rt, alloc, words, &mut shelf, &mut out, &mut err, &OpenGate);
+    let status = match served_network(words) {
+        Some(net) => serve(alloc, net, &mut shelf, &mut source, &mut out, &mut err),
+        None => signal(rt, alloc, words, &mut shelf, &mut out, &mut err, &OpenGate),
+    };
     Ok(Ending {
         status: status.code(),
         fetches: shelf.calls,
@@ -76,4 +83,12 @@ pub(crate) fn call<R: Threads + Wait + Sync>(
 fn sink(alloc: Global, fails: SinkFail) -> Result<Counted<MemorySink>, AllocError> {
     let fails = Vec::from_slice(alloc, &[fails])?;
     Ok(Counted::new(MemorySink::new(alloc, CAPACITY, fails)?))
+}
+
+/// The input of a call with these files.
+fn input_of(alloc: Global, files: &[(Text, Items<u8>)]) -> Result<Vec<u8>, AllocError> {
+    match files.iter().find(|file| file.0.as_str() == INPUT) {
+        Some(file) => file.1.as_slice().to_vec(alloc),
+        None => Ok(Vec::new(alloc)),
+    }
 }

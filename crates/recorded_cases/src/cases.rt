@@ -13,7 +13,7 @@ use std::io;
 /// Of its files `words` has the words, one a line, `status` the exit status, and `stdout` and `stderr` have the bytes that are written;
 /// where one of these two is absent, nothing is. A file `replays` stands for an answer that is not fixed: it has the words of a second
 /// call, which has to write once more what the first wrote, and whose last word names that text. A file `note` is for the reader. All
-/// other files are the program's.
+/// other files are the program's, of which `stdin` is what it reads from standard input.
 #[derive(Drop)]
 pub(crate) struct Case {
     pub(crate) words: Vec<Text>,

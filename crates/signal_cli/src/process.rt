@@ -1,12 +1,15 @@
-//! The program in its process: its arguments, files and streams, handed to the top call.
+//! The program in its process: its arguments, files and streams, passed to `serve` or the top call.
 
+use crate::serving::served_network;
 use crate::{Status, signal};
 use board_model::OpenGate;
+use commands::{Refusal, refuse};
+use controller_jobs::serve;
 use foundation::text::Text;
-use outside_world::{FileShelf, StreamSink};
-use std::alloc::Global;
+use outside_world::{FileShelf, Shelf, Sink, StreamSink, StreamSource};
+use std::alloc::{AllocError, Global};
 use std::env;
-use std::io::{ErrorKind, Write};
+use std::io::{ErrorKind, Read, Write};
 use std::process::ExitCode;
 use std::rt::{Env, Files};
 use std::sync::Wait;
@@ -25,16 +28,18 @@ enum NoWords {
     Memory,
 }
 
-/// Calls `signal` with the arguments of the command line, which `env` gives, the files and threads of `rt`, these
-/// streams for `out` and `err`, and the open gate. The answer is its status, or 7 where the arguments are refused.
+/// Calls `serve` where the arguments of the command line, which `env` gives, are `serve` and a word, and else `signal` with them. It has
+/// the files and threads of `rt`, the stream `input` for the source, these streams for `out` and `err`, and the open gate. The answer is
+/// its status, or 7 where the arguments are refused.
 ///
 /// docs/FORMATS.md, "Exit statuses and lines of refusal".
 pub fn run<
     W: Env + AllocGlobal,
     R: Files + AllocGlobal + Threads + Wait + Sync,
+    I: Read + Drop,
     O: Write + Drop,
     E: Write + Drop,
->(env: &W, rt: &R, out: O, err: E) -> ExitCode {
+>(env: &W, rt: &R, input: I, out: O, err: E) -> ExitCode {
     let alloc = rt.alloc();
     let words = match words(env, alloc) {
         Ok(words) => words,
@@ -44,8 +49,26 @@ pub fn run<
     let mut shelf = FileShelf::new(alloc, rt);
     let mut out = StreamSink::new(out);
     let mut err = StreamSink::new(err);
-    let status = signal(rt, alloc, &words, &mut shelf, &mut out, &mut err, &OpenGate);
+    let status = match served_network(&words) {
+        Some(net) => serve_stream(alloc, net, &mut shelf, input, &mut out, &mut err),
+        None => signal(rt, alloc, &words, &mut shelf, &mut out, &mut err, &OpenGate),
+    };
     ExitCode::from(status.code())
+}
+
+// Serves the network in a file to the requests of a stream.
+fn serve_stream<I: Read + Drop, S: Shelf, O: Sink, E: Sink>(
+    alloc: Global,
+    net: &str,
+    shelf: &mut S,
+    input: I,
+    out: &mut O,
+    err: &mut E,
+) -> Status {
+    match StreamSource::new(alloc, input) {
+        Ok(mut source) => serve(alloc, net, shelf, &mut source, out, err),
+        Err(AllocError) => refuse(alloc, Refusal::NoMemory, err),
+    }
 }
 
 // The arguments of the command line, without the program's name.

@@ -1,6 +1,6 @@
 //! The top call: the arguments of the command line, and what is done.
 ghost use Rattle.std.specs.Prelude.{◌≡◌, ◌≢◌, ◌↔◌};
-ghost use Rattle.command_words.specs.Calls.{Call, IsCall, IsOfControllers, IsWithin, call_of};
+ghost use Rattle.command_words.specs.Calls.{Call, IsCall, IsOfControllers, IsOverNetwork, IsWithin, call_of};
 ghost use Rattle.commands.specs.Outcome.{Outcome};
 ghost use Rattle.commands.specs.Refusals.{Says};
 ghost use Rattle.commands.specs.declared.refusals.Refusal.TheVariants as refusal;
@@ -15,8 +15,8 @@ use controller_jobs::{
 };
 use foundation::text::Text;
 use network_jobs::{
-    bounds_fixed_job, bounds_job, grid_job, instance_job, net_job, replay_job, turns_job,
-    upgrade_job,
+    bounds_fixed_job, bounds_job, grid_job, instance_job, net_job, replay_job, totals_job,
+    turns_job, upgrade_job,
 };
 use outside_world::{Shelf, Sink};
 use planner_jobs::{certify_bound_job, certify_job, certify_par_job, check_job, plan_job};
@@ -78,17 +78,14 @@ fn run<R: Threads + Wait + Sync, S: Shelf, O: Sink, E: Sink, G: Gate + Sync>(
             certify_par_job(rt, alloc, file, width, shelf, out, err)
         }
         Command::Check { file } => check_job(alloc, file, shelf, out, err),
-        Command::Turns { net, arr } => turns_job(alloc, net, arr, shelf, out, err),
-        Command::Replay { net, arr, hist } => replay_job(alloc, net, arr, hist, shelf, out, err),
-        Command::Net { net, arr } => net_job(rt, alloc, net, arr, shelf, out, err, gate),
-        Command::Instance {
-            net,
-            arr,
-            hist,
-            node,
-            round,
-        } => instance_job(alloc, net, arr, hist, node, round, shelf, out, err),
-        Command::Actuate { .. }
+        Command::Turns { .. }
+        | Command::Totals { .. }
+        | Command::Replay { .. }
+        | Command::Net { .. }
+        | Command::Instance { .. }
+        | Command::Audit { .. }
+        | Command::Queues { .. }
+        | Command::Actuate { .. }
         | Command::Fixed { .. }
         | Command::Compare { .. }
         | Command::CompareFixed { .. }
@@ -96,12 +93,8 @@ fn run<R: Threads + Wait + Sync, S: Shelf, O: Sink, E: Sink, G: Gate + Sync>(
         | Command::Spill { .. }
         | Command::SpillActuated { .. }
         | Command::Decide { .. }
-        | Command::DecideNode { .. } => run_controllers(alloc, command, shelf, out, err),
-        Command::Audit { net, arr, report } => {
-            audit_job(alloc, net, arr, report, shelf, out, err)
-        }
-        Command::Queues { net, arr, report } => {
-            queues_job(alloc, net, arr, report, shelf, out, err)
+        | Command::DecideNode { .. } => {
+            run_over_network(rt, alloc, command, shelf, out, err, gate)
         }
         Command::Grid {
             number,
@@ -111,6 +104,53 @@ fn run<R: Threads + Wait + Sync, S: Shelf, O: Sink, E: Sink, G: Gate + Sync>(
         Command::Upgrade { net } => upgrade_job(alloc, net, shelf, out, err),
         Command::Bounds { net } => bounds_job(alloc, net, shelf, out, err),
         Command::BoundsFixed { net, plan } => bounds_fixed_job(alloc, net, plan, shelf, out, err),
+    }
+}
+
+/// Does what a command says over a network and what enters it, or over a report or a round of it.
+fn run_over_network<R: Threads + Wait + Sync, S: Shelf, O: Sink, E: Sink, G: Gate + Sync>(
+    rt: &R,
+    alloc: Global,
+    command: Command<'_>,
+    shelf: &mut S,
+    out: &mut O,
+    err: &mut E,
+    gate: &G,
+) -> Status
+    requires within { IsWithin (call_of command) }
+    requires over { IsOverNetwork (call_of command) }
+    ensures { Outcome (call_of command.entry)
+        (record { shelf = S.state shelf.old; out = O.state out.old; err = E.state err.old })
+        (record { shelf = S.state shelf.new; out = O.state out.new; err = E.state err.new }) result }
+{
+    match command {
+        Command::Turns { net, arr } => turns_job(alloc, net, arr, shelf, out, err),
+        Command::Totals { net, arr } => totals_job(alloc, net, arr, shelf, out, err),
+        Command::Replay { net, arr, hist } => replay_job(alloc, net, arr, hist, shelf, out, err),
+        Command::Net { net, arr } => net_job(rt, alloc, net, arr, shelf, out, err, gate),
+        Command::Instance {
+            net,
+            arr,
+            hist,
+            node,
+            round,
+        } => instance_job(alloc, net, arr, hist, node, round, shelf, out, err),
+        Command::Audit { net, arr, report } => {
+            audit_job(alloc, net, arr, report, shelf, out, err)
+        }
+        Command::Queues { net, arr, report } => {
+            queues_job(alloc, net, arr, report, shelf, out, err)
+        }
+        Command::Actuate { .. }
+        | Command::Fixed { .. }
+        | Command::Compare { .. }
+        | Command::CompareFixed { .. }
+        | Command::Scale { .. }
+        | Command::Spill { .. }
+        | Command::SpillActuated { .. }
+        | Command::Decide { .. }
+        | Command::DecideNode { .. } => run_controllers(alloc, command, shelf, out, err),
+        _ => unreachable!(),
     }
 }
 

@@ -5,5 +5,5 @@ use signal_cli::run;
 use std::process::ExitCode;
 
 fn main(rt: HostRuntime) -> ExitCode {
-    run(&rt, &rt, rt.stdout(), rt.stderr())
+    run(&rt, &rt, rt.stdin(), rt.stdout(), rt.stderr())
 }

@@ -177,6 +177,7 @@ fn network(alloc: Global, also: Option<&str>) -> Result<Network, NetFault> {
         nodes: Items::from_vec(nodes),
         links: links(alloc)?,
         conflicts: conflicts(alloc)?,
+        great: false,
     };
     build(alloc, draft)
 }

@@ -40,7 +40,7 @@ fn judged(alloc: Global, net: &Network, histories: &str) -> Result<String, Alloc
     let mut text = String::new(alloc);
     for digits in histories.split(' ') {
         let h = history_of(alloc, digits)?;
-        let is = lawful(net, &h);
+        let is = lawful(alloc, net, &h)?;
         write!(text, "{digits}:{is} ")?;
     }
     Ok(text)

@@ -43,7 +43,7 @@ fn two_threads<R: Threads + Wait + Sync>(
     alloc: Global,
     gate: &MeetingGate,
 ) -> Result<Vec<BoardLog>, AllocError> {
-    let (made, mut passes) = Boards::new(alloc, 4, 2, 101)?;
+    let (made, mut passes) = Boards::new(alloc, 4, &[101, 101])?;
     let boards = &made;
     let one = passes.pop().ok_or(AllocError)?;
     let zero = passes.pop().ok_or(AllocError)?;

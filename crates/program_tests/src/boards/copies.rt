@@ -156,7 +156,7 @@ fn two_threads<R: Threads + Wait + Sync>(
     alloc: Global,
     gate: &CopyMeeting,
 ) -> Result<(), AllocError> {
-    let (boards, mut passes) = SnapBoards::new(rt, alloc, &[Some(ENDS)], 2, VERSIONS)?;
+    let (boards, mut passes) = SnapBoards::new(rt, alloc, &[Some(ENDS)], &[VERSIONS, VERSIONS])?;
     call_at_once(rt, alloc, &boards, passes.as_mut_slice(), gate);
     drop_passes(passes);
     boards.abandon(rt);

@@ -1,5 +1,5 @@
 //! A worked example at both forms of boards: one link, two passes, four calls.
-ghost use Rattle.std.specs.Prelude.{◌≡◌, ◌<◌, IfOk, OnErr};
+ghost use Rattle.std.specs.Prelude.{◌≡◌, ◌<◌, ◌∷◌, [], IfOk, OnErr};
 ghost use Rattle.link_boards.specs.Passes.{AreAllPasses, HasRead, HasSent, fresh_passes};
 
 use board_model::{BoardKind, BoardLog, Forecast, OpenGate, Row, Seen, Sent};
@@ -76,7 +76,7 @@ fn four_calls<S: LinkSlot, R: Threads + Wait + Sync>(
     forecasts: (Forecast, Forecast),
 ) -> Result<Answers, AllocError>
     requires boards { (boards.now.links ≡ 1) × (boards.now.passes ≡ 2) }
-    requires passes { passes.old ≡ fresh_passes boards.now.id 10 0 2 }
+    requires passes { passes.old ≡ fresh_passes boards.now.id (10 ∷ 10 ∷ []) }
     ensures { AreAllPasses boards.now passes.new }
 {
     let seen = read(rt, alloc, &mut passes[1], boards)?;
@@ -100,7 +100,7 @@ type Told = (Answers, Vec<BoardLog>);
 /// What is told at boards whose slots are the logs.
 fn told_at_boards<R: Threads + Wait + Sync>(rt: &R, alloc: Global) -> Result<Told, AllocError> {
     let forecasts = (one_row(alloc, 22)?, one_row(alloc, 23)?);
-    let (boards, mut passes) = plan_boards::Boards::new(alloc, 1, 2, 10)?;
+    let (boards, mut passes) = plan_boards::Boards::new(alloc, 1, &[10, 10])?;
     let shared = boards.shared();
     let answers = four_calls(rt, alloc, passes.as_mut_slice(), shared, forecasts)?;
     let logs = boards.close(alloc, passes).map_err(|refused| refused.2)?;
@@ -113,7 +113,7 @@ fn told_at_snap_boards<R: Threads + Wait + Sync>(
     alloc: Global,
 ) -> Result<Told, AllocError> {
     let forecasts = (one_row(alloc, 22)?, one_row(alloc, 23)?);
-    let (boards, mut passes) = SnapBoards::new(rt, alloc, &[Some(ENDS)], 2, 10)?;
+    let (boards, mut passes) = SnapBoards::new(rt, alloc, &[Some(ENDS)], &[10, 10])?;
     let shared = boards.shared();
     let answers = four_calls(rt, alloc, passes.as_mut_slice(), shared, forecasts);
     let logs = boards.close(rt, alloc, passes)?;

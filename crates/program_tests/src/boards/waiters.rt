@@ -85,7 +85,7 @@ fn three_threads<R: Threads + Wait + Sync>(
     alloc: Global,
     gate: &HoldingGate,
 ) -> Result<(), AllocError> {
-    let (boards, mut passes) = Boards::new(alloc, 4, 3, 200)?;
+    let (boards, mut passes) = Boards::new(alloc, 4, &[200, 200, 200])?;
     make_rounds_at_once(rt, alloc, &boards, passes.as_mut_slice(), gate);
     Ok(())
 }

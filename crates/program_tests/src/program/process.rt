@@ -84,7 +84,13 @@ fn runs(rt: HostRuntime) -> Result<(), Fail> {
     for &(words, status, told, line) in RUNS {
         let mut out = Written(Vec::new(alloc));
         let mut err = Written(Vec::new(alloc));
-        let code = run(&(CommandLine(words), alloc), &rt, &mut out, &mut err);
+        let code = run(
+            &(CommandLine(words), alloc),
+            &rt,
+            &b""[..],
+            &mut out,
+            &mut err,
+        );
         let as_wanted = code == ExitCode::from(status)
             && out.0.as_slice() == told.as_bytes()
             && err.0.as_slice() == line.as_bytes();

@@ -1,6 +1,6 @@
 //! The command `net`.
 use super::copies::{network_of_copies, vehicles_of_copies};
-use super::pairs::{COPIES, MET, PAIRS, gate_of};
+use super::pairs::{COPIES, MET, PAIRS, can_meet, gate_of};
 use crate::gates::meeting::MeetingGate;
 use crate::program::calls::file;
 use commands::Status;
@@ -51,6 +51,9 @@ fn has_plans(report: &[u8]) -> bool {
 
 #[test]
 fn two_reads_inside_the_command(rt: HostRuntime) -> Result<(), Fail> {
+    if !can_meet(&rt) {
+        return Ok(());
+    }
     for (place, &[first, second]) in PAIRS.iter().enumerate() {
         let gate = gate_of(first, second);
         let (status, out) = ending(&rt, rt.alloc(), &gate)?;

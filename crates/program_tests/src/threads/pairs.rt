@@ -1,5 +1,6 @@
 //! The pairs of nodes that have to be at their readings at the same time, in a network of five copies of the worked one.
 use crate::gates::meeting::{MeetingGate, Place};
+use std::thread::{Threads, available_parallelism};
 
 /// How many copies the network has.
 pub(crate) const COPIES: u32 = 5;
@@ -12,6 +13,14 @@ pub(crate) const PAIRS: &[[(u32, u32); 2]] = &[
     [(0, 2), (9, 21)],
     [(3, 6), (6, 17)],
 ];
+
+/// Whether two nodes of a run can meet: the run has a thread for each processor, and one alone does node after node.
+pub(crate) fn can_meet<R: Threads>(rt: &R) -> bool {
+    match available_parallelism(rt) {
+        Ok(processors) => processors.get() > 1,
+        Err(_) => false,
+    }
+}
 
 /// The gate in which two nodes meet, each with the link that it reads.
 ///

@@ -6,8 +6,9 @@ use Rattle.commands.specs.Storages.{spilled_under}
 use Rattle.controller_jobs.proofs.spill.planned_totals.Goals as goal
 
 pub returns : goal.returns
-returns c = (
-  c.in_ok-run.run',
-  c.in_ok-run.ensures.kept,
-  c.in_ok-totals.ensures.value ∙ ap (λ (lines : List (List Green)). spilled_under c.args.net.now (arriving_of c.args.arrivals.now) c.args.store.now (signs_by (line_in lines))) c.as_slice.ensures,
-)
+returns c =
+    let turned = c.in_ok-left.ensures in (
+      turned.run,
+      turned.runs,
+      c.in_ok-totals.ensures.value ∙ ap (λ (lines : List (List Green)). spilled_under c.args.net.now (arriving_of c.args.arrivals.now) c.args.store.now (signs_by (line_in lines))) (c.as_slice.ensures ∙ turned.are.timelines),
+    )

@@ -1,0 +1,163 @@
+-- What `serve` answers to requests, and how it ends.
+use Rattle.std.specs.Prelude.{◌≡◌, ◌≢◌, ℕ, ◌-◌, ◌^◌, ◌<◌, List, [], ◌∷◌, ◌++◌, Option, Some, None, All, codes, length, ◌⊎◌}
+use Rattle.std.specs.Io.KnownBytes.{IsAtEnd}
+use Rattle.std.specs.List.{AllZip, concat}
+use Rattle.outside_world.specs.Shelf.{GainsLast}
+use Rattle.outside_world.specs.Sink.{Breaks, Gains, Rose, SinkState, one_more}
+use Rattle.outside_world.specs.Source.{SourceState}
+use Rattle.net_parts.specs.Numbers.{Net, number_of}
+use Rattle.round_states.specs.declared.states.RoundState.{RoundState}
+use Rattle.text_faults.specs.declared.bad_texts.BadText.{BadText}
+use Rattle.text_faults.specs.declared.bad_texts.BadText.TheVariants.{Long}
+use Rattle.commands.specs.Kinds.{Kind, NetworkText, StateText, node_state_of}
+use Rattle.commands.specs.Limits.{most_bytes}
+use Rattle.commands.specs.Outcome.{Outside}
+use Rattle.commands.specs.Refusals.{Says, line_of}
+use Rattle.commands.specs.Rounds.{IsDecisionText, IsNodeDecisionText}
+use Rattle.commands.specs.Texts.{HasFault, IsBad, IsIn, IsReadAs, Reads, text_of}
+use Rattle.commands.specs.declared.refusals.Named.TheVariants.{Node}
+use Rattle.commands.specs.declared.refusals.Refusal.{Refusal}
+use Rattle.commands.specs.declared.refusals.Refusal.TheVariants as refusal
+use Rattle.commands.specs.declared.refusals.TextPlace.TheVariants.{First, Second}
+use Rattle.commands.specs.declared.status.Status.{Status}
+use Rattle.commands.specs.declared.status.Status.TheVariants.{Done, Rejected, Usage, BadInput, ReadFault, WriteFault, NoMemory}
+use Rattle.controller_jobs.specs.Requests as requests
+use Rattle.controller_jobs.specs.Requests.{AllCome, AreRequests, Request, asked_by}
+
+-- what `decide` writes of a state's text, of which it asks all nodes
+pub record IsDecided (net : Net) (text bytes : List ℕ) : Type 0 where
+  pub state : RoundState
+  pub read : IsReadAs (StateText net) text state
+  pub is : IsDecisionText net state bytes
+
+-- and of which it asks the node with this name
+pub record IsNodeDecided (net : Net) (text name bytes : List ℕ) : Type 0 where
+  pub state : RoundState
+  pub read : IsReadAs (node_state_of name net) text state
+  pub is : IsNodeDecisionText net state name bytes
+
+-- what it writes of all nodes, or of those with these names, one after another
+abbrev pub IsDecidedFor : Net → List ℕ → Option (List (List ℕ)) → List ℕ → Type 0
+IsDecidedFor net text None bytes = IsDecided net text bytes
+IsDecidedFor net text (Some names) bytes = (parts : List (List ℕ)) × AllZip (IsNodeDecided net text) names parts × (bytes ≡ concat parts)
+
+-- a text is read as nothing of its kind, and this is why
+abbrev pub IsUnread : Kind → List ℕ → BadText → Type 0
+IsUnread kind text why = ((said : kind.Said) → ¬ Reads kind text said) × HasFault kind text why
+
+-- why `decide` refuses a state's text, which is to be of this kind
+abbrev pub IsRefused : Kind → List ℕ → Refusal → Type 0
+IsRefused kind text (refusal.Bad Second why) = IsUnread kind text why
+IsRefused kind text _ = ⊥
+
+-- why it refuses one of which it asks the node with this name: the text, or the name
+abbrev pub IsNodeRefused : Net → List ℕ → List ℕ → Refusal → Type 0
+IsNodeRefused net text name (refusal.Bad Second why) = IsUnread (node_state_of name net) text why
+IsNodeRefused net text name (refusal.Missing Node) = (state : RoundState) × IsReadAs (node_state_of name net) text state × (number_of net.node_names name ≡ None)
+IsNodeRefused net text name _ = ⊥
+
+-- the first of these names of which it refuses the text
+pub record IsFirstRefused (net : Net) (text : List ℕ) (names : List (List ℕ)) (why : Refusal) : Type 0 where
+  pub before : List (List ℕ)
+  pub name : List ℕ
+  pub after : List (List ℕ)
+  pub are : names ≡ before ++ name ∷ after
+  pub decided : All (λ other. (bytes : List ℕ) × IsNodeDecided net text other bytes) before
+  pub refused : IsNodeRefused net text name why
+
+-- why it refuses the text of a request: of all nodes, or of the first of the names that it refuses
+abbrev pub IsRefusedFor : Net → List ℕ → Option (List (List ℕ)) → Refusal → Type 0
+IsRefusedFor net text None why = IsRefused (StateText net) text why
+IsRefusedFor net text (Some names) why = IsFirstRefused net text names why
+
+-- why a request is refused: its text is too long, or `decide` refuses it; or memory ran out
+abbrev pub IsWhy : Net → Request → Refusal → Type 0
+IsWhy net request refusal.NoMemory = Unit {0}
+IsWhy net request (refusal.Bad Second Long) = most_bytes < length (requests.text_of request)
+IsWhy net request why = IsRefusedFor net (requests.text_of request) (asked_by request.last) why
+
+-- the line that ends an answer, and the answer that is a refusal
+abbrev pub end_line : List ℕ
+end_line = codes "end\n"
+
+abbrev pub refused_answer : Refusal → List ℕ
+refused_answer why = codes "refused," ++ line_of why ++ end_line
+
+-- the answer to a request: what `decide` writes of it, and a line `end`; or why it is refused
+abbrev pub IsAnswer : Net → Request → List ℕ → Type 0
+IsAnswer net request answer =
+    ((bytes : List ℕ) × IsDecidedFor net (requests.text_of request) (asked_by request.last) bytes × (answer ≡ bytes ++ end_line))
+    ⊎ ((why : Refusal) × IsWhy net request why × (answer ≡ refused_answer why))
+
+-- what is answered to lines after the last request, as the source has ended: nothing where there are none, else that they cannot be read
+abbrev pub answer_to_others : List (List ℕ) → List ℕ
+answer_to_others [] = []
+answer_to_others (line ∷ rest) = refused_answer (refusal.Unread Second)
+
+-- lines came, and these are the answers to the requests that they are
+pub record AreAnswered (net : Net) (from to : SourceState) (lines others answers : List (List ℕ)) : Type 0 where
+  pub come : AllCome from lines to
+  pub requests : List Request
+  pub are : AreRequests lines requests others
+  pub each : AllZip (IsAnswer net) requests answers
+
+-- all lines came, and all requests were answered; a source that gives 2^64 - 1 lines counts as ended
+pub record IsServed (net : Net) (from to : SourceState) (out out' : SinkState) : Type 0 where
+  pub lines : List (List ℕ)
+  pub others : List (List ℕ)
+  pub answers : List (List ℕ)
+  pub answered : AreAnswered net from to lines others answers
+  pub ended : IsAtEnd to.left ⊎ (length lines ≡ 2 ^ 64 - 1)
+  pub written : Gains out out' (concat answers ++ answer_to_others others)
+
+-- after the lines that came the source failed, and all requests that came were answered
+pub record IsCutOff (net : Net) (from to : SourceState) (out out' : SinkState) : Type 0 where
+  pub lines : List (List ℕ)
+  pub others : List (List ℕ)
+  pub answers : List (List ℕ)
+  pub before : SourceState
+  pub answered : AreAnswered net from before lines others answers
+  pub failed : to.faults ≡ one_more before.faults
+  pub written : Gains out out' (concat answers)
+
+-- an answer could not be written whole: a front of all answers so far was, and nothing after it
+pub record IsBrokenOff (net : Net) (from to : SourceState) (out out' : SinkState) : Type 0 where
+  pub lines : List (List ℕ)
+  pub others : List (List ℕ)
+  pub answers : List (List ℕ)
+  pub answered : AreAnswered net from to lines others answers
+  pub written : Breaks out out' (concat answers ++ answer_to_others others)
+
+-- the text in a file is read as this network, and as nothing else; and this is so of it
+abbrev pub OfNetwork : (net : List ℕ) → Outside → (Net → Type 0) → Type 0
+OfNetwork net old holds = (network : Net) × IsIn old.shelf.files net NetworkText network × holds network
+
+-- How `serve` ends: `old` is what the shelf and the sinks were and `new` what they are now, and the source was `from` and is `to`.
+pub record Serves (net : List ℕ) (old new : Outside) (from to : SourceState) (status : Status) : Type 0 where
+  -- all requests were answered
+  pub done : status ≡ Done → OfNetwork net old (λ network. IsServed network from to old.out new.out)
+  -- the words are right, and nothing is judged
+  pub usage : status ≢ Usage
+  pub rejected : status ≢ Rejected
+  -- the network is refused, and the line says why
+  pub bad_input : status ≡ BadInput → (why : BadText) × IsBad old.shelf.files why NetworkText net × Says (refusal.Bad First why) old.err new.err
+  -- the network cannot be read, or the source failed, and the line says which
+  pub read_fault : status ≡ ReadFault →
+      (GainsLast old.shelf.failed new.shelf.failed net × (to ≡ from) × (new.out ≡ old.out) × Says (refusal.Unread First) old.err new.err)
+      ⊎ (OfNetwork net old (λ network. IsCutOff network from to old.out new.out) × Says (refusal.Unread Second) old.err new.err)
+  -- an answer was not written whole
+  pub write_fault : status ≡ WriteFault → OfNetwork net old (λ network. IsBrokenOff network from to old.out new.out) × Says refusal.Unwritten old.err new.err
+  -- memory ran out before any line came
+  pub no_memory : status ≡ NoMemory → Says refusal.NoMemory old.err new.err
+  -- nothing else changes the shelf, the source, out or err, and nothing the shelf's files
+  pub shelf : status ≢ ReadFault → new.shelf ≡ old.shelf
+  pub files : new.shelf.files ≡ old.shelf.files
+  pub source : (status ≡ BadInput) ⊎ (status ≡ NoMemory) → to ≡ from
+  pub out : (status ≡ BadInput) ⊎ (status ≡ NoMemory) → new.out ≡ old.out
+  pub err : status ≡ Done → new.err ≡ old.err
+  -- a network that the shelf tells, and that is read as none, is refused
+  pub refused : (text : List ℕ) → text_of old.shelf.files net ≡ Some text → ((network : Net) → ¬ Reads NetworkText text network)
+      → new.shelf ≡ old.shelf → (status ≡ BadInput) ⊎ (status ≡ NoMemory)
+  -- where nothing is wrong and nothing failed, all requests are answered
+  pub complete : (text : List ℕ) → text_of old.shelf.files net ≡ Some text → (network : Net) → Reads NetworkText text network
+      → new.shelf ≡ old.shelf → ¬ Rose from.faults to.faults → ¬ Rose old.out.faults new.out.faults → (status ≡ Done) ⊎ (status ≡ NoMemory)
