@@ -7,7 +7,7 @@ built. There are three ways: the Nth request for memory alone is refused; the Nt
 are; and, where the case starts threads, the Nth start of a thread and all later ones. N rises from
 1 until a run meets no refusal: by 1 up to --each, and then by 97. A run may end with status 6,
 nothing on standard output and no line or `signal: no memory` on standard error, or else as the case
-has it. Of a program of tests those are run whose name ends in `whichever_is_refused`, in the first
+has it; of `serve` with `refused,signal: no memory` in place of any of its answers. Of a program of tests those are run whose name ends in `whichever_is_refused`, in the first
 way alone, and they have to pass.
 
 For each case and way a line says how many runs there were and how many requests the last one made;
@@ -19,13 +19,14 @@ the program has to be linked dynamically. Where there is no `cc`, nothing is run
 """
 
 import os
+import re
 import shutil
 import struct
 import subprocess
 import sys
 import tempfile
 from concurrent.futures import ThreadPoolExecutor
-from itertools import chain, count, islice
+from itertools import chain, count, islice, zip_longest
 from pathlib import Path
 
 from run_cases import Malformed, cases_in, end, ended, parser_of, recorded, shown, words_in
@@ -36,6 +37,8 @@ SOURCE = ROOT / "tools/refuse.c"
 TESTS = "whichever_is_refused"
 
 OUT_OF_MEMORY = 6
+SERVED = re.compile(rb"(?:(?!end\n)[^\n]*\n)*end\n")
+NOT_SERVED = b"refused,signal: no memory\nend\n"
 MEMORY_LINES = (b"", b"signal: no memory\n")
 ALL_LATER = 2**63
 WAYS = ("memory at", "memory from", "threads from")
@@ -64,6 +67,12 @@ def ending(end):
     return f"status {status}, {len(out)} bytes on standard output, {shown(err)} on standard error"
 
 
+def are_answers(out, wanted):
+    """Whether each answer of `serve` is as it is wanted, or says that memory ran out for it."""
+    pairs = zip_longest(SERVED.findall(out), SERVED.findall(wanted))
+    return b"".join(SERVED.findall(out)) == out and all(found in (want, NOT_SERVED) for found, want in pairs)
+
+
 class Case:
     """A recorded case."""
 
@@ -79,6 +88,8 @@ class Case:
         """What is wrong with the end of a run, in a few words, or None."""
         status, out, err = end
         if status == OUT_OF_MEMORY and not out and err in MEMORY_LINES:
+            return None
+        if self.words[:1] == [b"serve"] and (status, err) == (self.wanted[0], self.wanted[2]) and are_answers(out, self.wanted[1]):
             return None
         if self.replays and status == 0 and not err:
             return self.replay_fault(out, runs)

@@ -5,7 +5,8 @@ A case is a folder with a file `words`, which has the words of the program's com
 line, and with the answer that is wanted: `status` has the exit status, `stdout` and `stderr` have
 the bytes written there. A `stdout` or `stderr` that is absent stands for no bytes, and a file
 `stdout.sum` for a `stdout` of which only the length and the SHA-256 are kept. The program is run in
-a copy of the case's folder, so that the words can name its other files. A file `replays`
+a copy of the case's folder, so that the words can name its other files, and reads a file `stdin`, where
+there is one, from standard input. A file `replays`
 stands for an output that is not fixed: it has the words of a second run, whose last word names
 what the first one wrote to standard output; the second has to write the same, and to end with 0.
 
@@ -30,6 +31,7 @@ from cases import SUM, Malformed, sum_line, unpack
 
 ANSWER = ("status", "stdout", "stderr")
 NO_FILES = ("words", "replays", "note", SUM, *ANSWER)
+INPUT = "stdin"
 
 
 class Sum:
@@ -108,16 +110,19 @@ def replayed(program, case, told, seconds):
 
 def ended(program, words, folder, seconds, settings=None):
     """How a run of the program in a folder ended, or None where it took too long. The settings are of its environment alone."""
+    given = Path(folder) / INPUT
+    source = given if given.is_file() else os.devnull
     try:
-        run = subprocess.Popen(
-            [os.fsencode(program), *words],
-            cwd=folder,
-            env={**os.environ, **(settings or {})},
-            stdin=subprocess.DEVNULL,
-            stdout=subprocess.PIPE,
-            stderr=subprocess.PIPE,
-            start_new_session=True,
-        )
+        with open(source, "rb") as read:
+            run = subprocess.Popen(
+                [os.fsencode(program), *words],
+                cwd=folder,
+                env={**os.environ, **(settings or {})},
+                stdin=read,
+                stdout=subprocess.PIPE,
+                stderr=subprocess.PIPE,
+                start_new_session=True,
+            )
     except (OSError, ValueError) as fault:
         raise Malformed(f"{program} can't be run in {folder}: {fault}") from fault
     with run:

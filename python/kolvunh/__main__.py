@@ -8,6 +8,7 @@
     explain WORDS ..          calls the program by the words, and says of a refusal what is wrong and where
     sweep NET ARR ..          a network under several demands with several seeds
     orders NET ARR ..         a network in many orders of its nodes, and from which delay to which they come
+    districts NET ARR ..      a city cut into districts, each a process under MPI
     to-sumo, from-sumo, sumo-loop, compare-sumo ..    beside SUMO: docs in tools/sumo/README.md
     compare-own, calibrate ..    SUMO's own network under its imported one: controllers side by side, what stop lines let through
     from-cityflow ROADNET FLOW DIR    CityFlow's files as a network file and arrivals
@@ -27,6 +28,7 @@ MODULES = {
     "summary": "summary",
     "sweep": "sweep",
     "orders": "orders",
+    "districts": "districts.command",
     "from-cityflow": "cityflow",
     "to-sumo": "sumo.to_sumo",
     "from-sumo": "sumo.from_sumo",

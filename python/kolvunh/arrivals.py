@@ -9,7 +9,6 @@ from .records import Place, number_in, quote, rows_of, text_of
 
 HEADER = ("second", "link", "amount")
 VEHICLE = 1000  # thousandths: the amount of one vehicle
-MOST_SECOND = 17_999
 MOST_AMOUNT = 1_000_000
 MOST_SUM = 2_000_000_000
 

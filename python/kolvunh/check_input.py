@@ -17,7 +17,7 @@ from dataclasses import dataclass
 from .arrivals import VEHICLE, Arrival, read_arrivals, require_links
 from .commands import Words, end
 from .faults import Fault
-from .networks import Link, Network, Node, Phase, read_network
+from .networks import GREAT, MOST_SECONDS, Link, Network, Node, Phase, limits_of, read_network
 from .plans import PlanRow, read_plan
 from .records import plural, quote
 from .signs import gives_way_in
@@ -162,7 +162,10 @@ def time_warnings(inputs: Inputs) -> Iterator[str]:
     late, last = [arrival for arrival in arrivals if arrival.second >= run.seconds], max(arrival.second for arrival in arrivals)
     if late:
         rounds = last // run.step + 1
-        how = f"write rounds = {rounds} or more" if rounds <= 600 else f"a run has at most 600 rounds, {600 * run.step} seconds: take fewer arrivals"
+        most = min(limits_of(inputs.network.version).rounds, MOST_SECONDS // run.step)
+        fewer = f"a run has at most {most} rounds, {most * run.step} seconds: take fewer arrivals"
+        third = f", or write version = 3, with {GREAT.rounds} rounds at most" if inputs.network.version != 3 else ""
+        how = f"write rounds = {rounds} or more" if rounds <= most else fewer + third
         words = f"{len(late)} of {plural(len(arrivals), 'row')} come at second {run.seconds}, the end of the run, or later, and never enter"
         yield f"arrivals: {words}: {how}"
 

@@ -23,9 +23,10 @@ from typing import Any
 
 from .commands import Words, end
 from .faults import Fault
+from .networks import MOST_SECONDS
 from .records import Place, quote, text_of
 from .sumo.demand import Vehicle
-from .sumo.drafts import MOST_ROUNDS, STEP, Draft, write_draft
+from .sumo.drafts import Draft, write_draft
 from .sumo.from_sumo import tell
 from .sumo.groups import Node
 from .sumo.streets import Edge, Lane, Movement, Point, direction
@@ -189,7 +190,7 @@ def work() -> None:
     net = RoadNet(options.roadnet)
     if not net.nodes:
         raise Fault(f"{options.roadnet}: no intersection has light phases that a node could have")
-    draft = Draft(net.edges, net.places, net.nodes, net.vehicles(options.flow, MOST_ROUNDS * STEP))
+    draft = Draft(net.edges, net.places, net.nodes, net.vehicles(options.flow, MOST_SECONDS))
     if not draft.links:
         raise Fault(f"{options.flow}: no vehicle passes an intersection that is a node")
     write_draft(draft, options.folder)

@@ -6,10 +6,29 @@ Times are whole seconds. `sat` is in thousandths of a vehicle a second, and a sh
 import tomllib
 from dataclasses import dataclass
 from functools import cached_property
-from typing import Any
+from typing import Any, NamedTuple
 
 from .faults import Fault
 from .records import Place, text_of
+
+
+class Limits(NamedTuple):
+    """How many nodes, links, conflicts and rounds a file may have."""
+
+    nodes: int
+    links: int
+    conflicts: int
+    rounds: int
+
+
+SMALL, GREAT = Limits(64, 320, 1024, 600), Limits(1024, 8192, 32_768, 17_280)
+MOST_SECONDS = 86_400  # seconds of a run: a day
+SMALL_SECONDS = 18_000  # that the files of every network may name, however short its run is
+
+
+def limits_of(version: Any) -> Limits:
+    """The limits of a file that says this version, or None."""
+    return GREAT if version == 3 else SMALL
 
 
 @dataclass(frozen=True)
@@ -32,6 +51,11 @@ class Run:
     def seconds(self) -> int:
         """How long the run is."""
         return self.step * self.rounds
+
+    @property
+    def known_seconds(self) -> int:
+        """The seconds that the files of the network may name are below this."""
+        return max(SMALL_SECONDS, self.seconds)
 
 
 @dataclass(frozen=True)

@@ -7,7 +7,7 @@ In a street no clock tells the nodes who acts first, so what one run shows may b
 
     forward     the nodes act one after another in the order of the file, as in `turns`
     backward    one after another from the last to the first
-    together    all nodes read before any of them publishes, so nobody hears what is planned in this round
+    read_first  all nodes read before any of them publishes, so nobody hears what is planned in this round
     random K    the steps of all nodes are shuffled, each round anew; --count says how many such orders (40), --seed from which number
 
 A line for each order has its delay in vehicle seconds. The last two have the least, the mean and the greatest of them, and the delay of
@@ -30,7 +30,7 @@ from .networks import Network, read_network
 from .programs import built_program_words, run
 from .reports import HEADER
 
-FORWARD, BACKWARD, TOGETHER, RANDOM = "forward", "backward", "together", "random"
+FORWARD, BACKWARD, READ_FIRST, RANDOM = "forward", "backward", "read_first", "random"
 
 
 def steps_of(network: Network) -> dict[str, tuple[int, int]]:
@@ -47,7 +47,7 @@ def steps_of(network: Network) -> dict[str, tuple[int, int]]:
 def round_of(order: str, steps: dict[str, tuple[int, int]], draw: random.Random) -> list[str]:
     """The nodes of a round's steps, in their order; a node reads first and publishes then, whatever the order."""
     names = list(steps)
-    if order == TOGETHER:
+    if order == READ_FIRST:
         return [name for part in (0, 1) for name in names for _ in range(steps[name][part])]
     one_by_one = [name for name in (names[::-1] if order == BACKWARD else names) for _ in range(sum(steps[name]))]
     if order == RANDOM:
@@ -64,7 +64,7 @@ def history_text(network: Network, order: str, seed: int = 1) -> str:
 
 def orders_of(count: int, seed: int) -> Iterator[tuple[str, str, int]]:
     """Each order with what it is called and its seed."""
-    yield from ((order, order, 0) for order in (FORWARD, BACKWARD, TOGETHER))
+    yield from ((order, order, 0) for order in (FORWARD, BACKWARD, READ_FIRST))
     yield from ((f"{RANDOM} {seed + number}", RANDOM, seed + number) for number in range(count))
 
 

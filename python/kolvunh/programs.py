@@ -119,7 +119,7 @@ def run(words: Iterable[str | os.PathLike[str]], program: Sequence[str] | None =
 def _tables(words: tuple[str, ...], text: str) -> dict[str, list[Any]]:
     """The tables of an answer of a command."""
     place, command = f"the answer of `{words[0]}`", words[0]
-    if command in ("turns", "net", "replay", "actuate", "fixed") or form_of(words)[-1:] == ["actuated"]:
+    if command in ("turns", "totals", "net", "replay", "actuate", "fixed") or form_of(words)[-1:] == ["actuated"]:
         found = records_of_report(place, text)
         totals = [found.totals] if found.totals else []
         return {"steps": found.steps, "plans": found.plans, "greens": found.greens, "links": found.links, "totals": totals}

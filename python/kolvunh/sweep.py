@@ -4,7 +4,7 @@
 
 For each demand and seed vehicles are drawn: a link that ARR brings vehicles to gets one in each second with the probability
 that ARR has on the average, times the demand. Each run is a process of the program, on files of its own. A series is `turns`
-or `actuate`, or an order of tools/orders.py by which `replay` runs the nodes: `backward`, `together`, or `random`, drawn by
+or `actuate`, or an order of tools/orders.py by which `replay` runs the nodes: `backward`, `read_first`, or `random`, drawn by
 the seed. Keys of the file's [run] may follow, as `actuate:act_step=1,gap=3`; a key without a value, as `turns:hold=`, is left
 out. The CSV has the header `series,x,y`: series, demand, and delay in seconds for each vehicle that entered; tools/draw.py
 draws it, and makes a table of it. With --part only each Nth run, from the Kth (from 0) on, is done, and only the first part
@@ -30,11 +30,10 @@ from .arrivals import VEHICLE, Arrival, arrivals_text, read_arrivals, require_li
 from .commands import Words, end
 from .faults import Fault
 from .networks import read_network
-from .orders import BACKWARD, RANDOM, TOGETHER, history_text
+from .orders import BACKWARD, RANDOM, READ_FIRST, history_text
 from .programs import built_program_words, run
 
-SECONDS = 18_000  # a second of an arrival is below this
-COMMANDS = ("turns", "actuate", BACKWARD, TOGETHER, RANDOM)
+COMMANDS = ("turns", "actuate", BACKWARD, READ_FIRST, RANDOM)
 
 
 def rates_of(arrivals: Sequence[Arrival]) -> tuple[dict[str, float], int]:
@@ -51,7 +50,7 @@ def rates_of(arrivals: Sequence[Arrival]) -> tuple[dict[str, float], int]:
 def draw_arrivals(rates: dict[str, float], seconds: int, demand: float, seed: int) -> str:
     """A file of arrivals at a demand, the same for the same seed."""
     draw, drawn = random.Random(f"{demand} {seed}"), []
-    for second, (link, rate) in itertools.product(range(min(seconds, SECONDS)), rates.items()):
+    for second, (link, rate) in itertools.product(range(seconds), rates.items()):
         count = int(rate * demand + draw.random())
         drawn += [Arrival(second, link, VEHICLE * count)] if count else []
     return arrivals_text(drawn)
@@ -83,7 +82,7 @@ def delay(options: argparse.Namespace, rates: dict[str, float], seconds: int, ta
         network.write_text(network_text(options.network.read_text(), keys_of(series)))
         arrivals.write_text(draw_arrivals(rates, seconds, demand, seed))
         words = [command, network, arrivals]
-        if command in (BACKWARD, TOGETHER, RANDOM):
+        if command in (BACKWARD, READ_FIRST, RANDOM):
             history.write_text(history_text(read_network(network), command, seed))
             words = ["replay", network, arrivals, history]
         answer = run(words, options.program)
@@ -127,10 +126,13 @@ def work() -> None:
     part, parts = part_of(options.part)
     options.program = options.program or built_program_words()
     arrivals = read_arrivals(options.arrivals)
-    require_links(read_network(options.network), options.arrivals, arrivals)
+    network = read_network(options.network)
+    require_links(network, options.arrivals, arrivals)
+    rates, until = rates_of(arrivals)
+    until = min(until, network.run.known_seconds)
     tasks = list(itertools.product(options.demands, range(1, options.seeds + 1), options.series))[part::parts]
     with ThreadPoolExecutor(options.jobs) as pool:
-        delays = pool.map(partial(delay, options, *rates_of(arrivals)), tasks)
+        delays = pool.map(partial(delay, options, rates, until), tasks)
         if part == 0:
             print("series,x,y")
         try:

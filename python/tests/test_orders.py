@@ -4,6 +4,7 @@ import contextlib
 import io
 import os
 import random
+import subprocess
 import unittest
 from collections import Counter
 from unittest import mock
@@ -12,6 +13,7 @@ from kolvunh import orders
 from kolvunh.networks import read_network
 from kolvunh.records import rows_of
 
+from .test_mistakes import program
 from .worked import ARRIVALS, EXAMPLES, NETWORK, FilesTest, block
 
 # What stands for the program: the delay is 1000 where node a acts first, 2000 where another does, and 7000 under actuated control.
@@ -55,14 +57,14 @@ class OrdersTest(CalledTest):
         self.assertEqual(orders.steps_of(network), {"a": (1, 1), "b": (1, 1)})
         self.assertEqual(orders.history_text(network, orders.FORWARD), block("History file"))
         self.assertEqual(self.nodes_of(network, orders.BACKWARD), ["b", "b", "a", "a"])
-        self.assertEqual(self.nodes_of(network, orders.TOGETHER), ["a", "b", "a", "b"])
+        self.assertEqual(self.nodes_of(network, orders.READ_FIRST), ["a", "b", "a", "b"])
 
     def test_steps_of_a_street(self):
         # `second` reads first_second and third_second, and publishes second_first and second_third.
         network = read_network(EXAMPLES / "corridor.toml")
         self.assertEqual(orders.steps_of(network), {"first": (1, 1), "second": (2, 2), "third": (1, 1)})
         wanted = ["first", "second", "second", "third"]
-        self.assertEqual(self.rounds_of(network, orders.TOGETHER)[0], wanted + wanted)
+        self.assertEqual(self.rounds_of(network, orders.READ_FIRST)[0], wanted + wanted)
         # An only junction has no steps, and one history alone, which is its header.
         alone = read_network(EXAMPLES / "junction.toml")
         self.assertEqual(orders.history_text(alone, orders.RANDOM), "kind,round,node,x,y,z,w\n")
@@ -70,9 +72,23 @@ class OrdersTest(CalledTest):
     def test_each_order_is_lawful(self):
         network = read_network(EXAMPLES / "corridor.toml")
         wanted = Counter({"first": 2, "second": 4, "third": 2})
-        for order in (orders.FORWARD, orders.BACKWARD, orders.TOGETHER, orders.RANDOM):
+        for order in (orders.FORWARD, orders.BACKWARD, orders.READ_FIRST, orders.RANDOM):
             rounds = self.rounds_of(network, order)
             self.assertEqual((len(rounds), [Counter(nodes) for nodes in rounds]), (24, 24 * [wanted]))
+
+    @unittest.skipUnless(program(), "no program is built")
+    def test_the_program_replays_each_order(self):
+        for name in ("corridor", "bus_lane"):
+            files = [EXAMPLES / f"{name}.toml", EXAMPLES / f"{name}.csv"]
+            for order in (orders.FORWARD, orders.BACKWARD, orders.READ_FIRST, orders.RANDOM):
+                with self.subTest(name=name, order=order):
+                    history = self.file(orders.history_text(read_network(files[0]), order), f"{name}_{order}.csv")
+                    run = subprocess.run([program(), "replay", *files, history], capture_output=True, text=True, check=False)
+                    self.assertEqual((run.returncode, run.stderr), (0, ""))
+                    steps = [row.fields for row in rows_of("report", run.stdout, orders.HEADER) if row.fields[0] == "step"]
+                    self.assertEqual([fields[2] for fields in steps], self.nodes_of(read_network(files[0]), order))
+                    if order == orders.READ_FIRST:
+                        self.assertEqual([fields[5] for fields in steps if fields[3] == "read"], [fields[1] for fields in steps if fields[3] == "read"])
 
     def test_random_orders_are_those_of_their_seeds(self):
         network = read_network(EXAMPLES / "corridor.toml")
@@ -89,7 +105,7 @@ class OrdersTest(CalledTest):
         self.assertRegex(said[4], r"^4 orders: 1\.000 to 2\.000, mean 1\.\d+$")
         self.assertEqual(said[5], "actuated          7.000")
         written = sorted(path.name for path in (self.folder / "histories").iterdir())
-        self.assertEqual(written, ["backward.csv", "forward.csv", "random_1.csv", "together.csv"])
+        self.assertEqual(written, ["backward.csv", "forward.csv", "random_1.csv", "read_first.csv"])
 
 
 if __name__ == "__main__":

@@ -5,6 +5,7 @@ import tomllib
 from collections import Counter
 from typing import Any
 
+from ..networks import GREAT, MOST_SECONDS, SMALL_SECONDS, limits_of
 from ..records import plural, quote, text_of
 from ..toml_lines import Path, TomlLines
 from .wording import at, enumeration, meant, ordinal, thousands, value
@@ -40,13 +41,13 @@ THIRD: dict[str, dict[str, str]] = {
     "link": {"yields": TEXTS, "yield_sat": WHOLE, "walk": WHOLE, "cross": WHOLE},
 }
 PAIRS = {"link": (("yields", "yield_sat"), ("walk", "cross"))}
-# The least and the greatest value of a key, and the unit; `_number_faults` has the bounds between two keys.
+# The least and the greatest value of a key, and the unit; `_number_faults` has the bounds between two keys, and `_rounds_faults` those of rounds.
 BOUNDS: dict[str, dict[str, tuple[int, int, str]]] = {
     "run": {
         "step": (1, 30, "seconds"),
         "look": (10, 180, "seconds"),
         "gap": (0, 10, "seconds"),
-        "rounds": (1, 600, ""),
+        "rounds": (1, GREAT.rounds, ""),
         "age": (1, 3600, "seconds"),
         "hold": (1, 20, ""),
         "recall": (1, 3600, "seconds"),
@@ -80,6 +81,11 @@ class NetworkFile:
         self.file, self.text = file, text_of(file)
         self.tables: dict[str, Any] = tomllib.loads(self.text)
         self.lines = TomlLines(self.text)
+
+    @property
+    def known_seconds(self) -> int:
+        """The seconds that the files of a network which is right may name are below this."""
+        return max(SMALL_SECONDS, self.tables["run"]["rounds"] * self.tables["run"]["step"])
 
     def tables_of(self, key: str) -> list[Any]:
         """The tables of a list at the top."""
@@ -331,9 +337,16 @@ def bound(net: NetworkFile, section: str, item: str, sub: str) -> list[str]:
 def _bound_faults(net: NetworkFile, section: str, table: dict[str, Any]):
     """What is out of bounds in a table, each with its key, in the order in which bounds are tested."""
     if section == "top":
-        for key, least, most in (("node", 1, 64), ("link", 1, 320), ("conflict", 0, 1024)):
-            if not least <= len(net.tables_of(key)) <= most:
-                yield key, f"there are {plural(len(net.tables_of(key)), key)}, and there have to be {least} to {most}"
+        limits, great = limits_of(net.tables.get("version")), net.tables.get("version") == 3
+        for key, least, most, greatest in (
+            ("node", 1, limits.nodes, GREAT.nodes),
+            ("link", 1, limits.links, GREAT.links),
+            ("conflict", 0, limits.conflicts, GREAT.conflicts),
+        ):
+            count = len(net.tables_of(key))
+            if not least <= count <= most:
+                words = f"there are {plural(count, key)}, and there have to be {least} to {thousands(most)}"
+                yield key, words + ("" if great or count < least else third_words(greatest))
         if table.get("version", 2) not in (2, 3):
             yield "version", f"version is {value(table['version'])}, and has to be 2 or 3"
     if "name" in table and not NAME.fullmatch(table["name"]):
@@ -341,7 +354,9 @@ def _bound_faults(net: NetworkFile, section: str, table: dict[str, Any]):
     if section == "node":
         yield from _node_faults(table, net.tables.get("version") == 3)
     for key, (least, most, unit) in BOUNDS.get(section, {}).items():
-        if key in table:
+        if key == "rounds":
+            yield from _rounds_faults(table, net.tables.get("version"))
+        elif key in table:
             yield from _number_faults(table, key, least, most, unit)
     for key in ("links", "also") if section == "phase" else ():
         if len(table.get(key, [])) > LINKS_MOST:
@@ -363,6 +378,22 @@ def _node_faults(table: dict[str, Any], is_third: bool):
         elif marks == count:
             words += " (in a file with version = 3 all may have it)"
         yield "phase", words
+
+
+def third_words(most: int) -> str:
+    """Up to how many a file of version 3 may have."""
+    return f" (up to {thousands(most)} in a file with version = 3)"
+
+
+def _rounds_faults(run: dict[str, Any], version: Any):
+    """More rounds than the file may have, or longer ones than a day has."""
+    rounds, most = run["rounds"], limits_of(version).rounds
+    if not 1 <= rounds <= most:
+        words = f"rounds is {value(rounds)}, and has to be 1 to {thousands(most)}"
+        yield "rounds", words + ("" if version == 3 or rounds < 1 else third_words(GREAT.rounds))
+    elif rounds * run["step"] > MOST_SECONDS:
+        words = f"{thousands(rounds)} rounds of {run['step']} seconds are {thousands(rounds * run['step'])} seconds"
+        yield "rounds", f"{words}, and may be at most {thousands(MOST_SECONDS)}: a day"
 
 
 def _number_faults(table: dict[str, Any], key: str, least: int, most: int, unit: str):

@@ -8,7 +8,7 @@ from .networks import BEGINS, HEADERS, NetworkFile, link_counts
 from .wording import at, enumeration, meant, ordinal, thousands
 
 KINDS = ("step", "plan", "green", "link", "total")
-MOST_SUM, MOST_STORAGE, MOST_SECOND, MOST_AMOUNT, MOST_OFFSET = 2_000_000_000, 2_000_000_000, 17_999, 1_000_000, 17_999
+MOST_SUM, MOST_STORAGE, MOST_AMOUNT, MOST_OFFSET = 2_000_000_000, 2_000_000_000, 1_000_000, 17_999
 BITS = {8: 2**8 - 1, 32: 2**32 - 1, 64: 2**64 - 1}
 HEADER_OF = {
     "arrivals": "second,link,amount",
@@ -132,8 +132,8 @@ def arrivals_fault(rows: RecordFile, code: str, number: int) -> list[str]:
     second, link, amount = rows.row(number).fields
     if code == "link":
         return link_fault(rows, number, link, True)
-    if code == "amount" and int(second) > MOST_SECOND:
-        return [rows.say(number, f"second is {second}, and has to be 0 to {thousands(MOST_SECOND)}")]
+    if code == "amount" and int(second) >= rows.net.known_seconds:
+        return [rows.say(number, f"second is {second}, and has to be 0 to {thousands(rows.net.known_seconds - 1)}")]
     if code == "amount":
         words = f"amount is {amount}, and has to be 1 to {thousands(MOST_AMOUNT)} thousandths of a vehicle: 1000 is one vehicle"
         return [rows.say(number, words)] if not 1 <= int(amount) <= MOST_AMOUNT else []

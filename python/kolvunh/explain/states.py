@@ -8,7 +8,6 @@ from .wording import enumeration, meant, thousands
 
 KINDS = ("now", "green", "queue", "coming", "version", "row", "plan")
 MOST_SECOND, MOST_AMOUNT, MOST_ROWS, MOST_SUM, MOST_NUMBER = 100_000, 80_000, 180, 2_000_000_000, 2**32 - 1
-END = 18_000  # seconds: a round begins before
 FARTHEST_BEGIN = 3780  # seconds after the begin of a round
 CELLS: dict[str, dict[int, tuple[str, int | None, int | None]]] = {
     "now": {2: ("x, the second,", 10, None)},
@@ -89,8 +88,9 @@ def time_fault(state: StateFile, number: int) -> list[str]:
     if number == 1 and fields[0] != "now":
         return [state.say(1, "the first row has to be `now`, with the second in which the round begins")]
     if number == 1:
-        words = f"a round begins in a multiple of {step}, the network's step, below {END}"
-        return [state.say(1, words)] if int(fields[2]) % step or int(fields[2]) >= END else []
+        end = state.net.known_seconds
+        words = f"a round begins in a multiple of {step}, the network's step, below {thousands(end)}"
+        return [state.say(1, words)] if int(fields[2]) % step or int(fields[2]) >= end else []
     if fields[0] == "now":
         return [state.say(number, "`now` is told in the first row alone")]
     travel, second = state.net.link(fields[1])["travel"], int(fields[2])

@@ -20,7 +20,7 @@ from ..commands import Words, end
 from ..faults import Fault
 from ..programs import built_program_words
 from .compare_sumo import HEADER, row_of
-from .loop import Loop, asker, run_control
+from .loop import asker, run_control, run_loop
 from .measures import Outcome, differences, last_line, outcome, run_words
 from .own import OwnSensors, OwnSignals
 from .pressure import MaxPressure
@@ -36,9 +36,12 @@ def one_run(options: Namespace, task: tuple[str, int]) -> tuple[Outcome, int]:
     folder, signals = options.folder, OwnSignals(options.network, options.folder)
     files = options.network, Path(str(options.routes).replace("%", str(seed)))
     if name in LOOKING:
-        ask = asker(options.program, folder / "net.toml", folder / f"state.{seed}.csv")
-        controller = Loop(signals, ask) if name == "decide" else MaxPressure(signals)
-        lines = run_control(signals, controller, run_words(folder, name, seed, signals, files=files), OwnSensors)
+        words = run_words(folder, name, seed, signals, files=files)
+        if name == "decide":
+            with asker(options.program, folder / "net.toml", folder / f"state.{seed}.csv") as ask:
+                lines = run_loop(signals, ask, words, OwnSensors)
+        else:
+            lines = run_control(signals, MaxPressure(signals), words, OwnSensors)
         return outcome(folder, name, seed), len(list(differences(folder, name, seed, signals, lines)))
     more = [] if name == "program" else [folder / f"{name}.own.{seed}.xml"]
     for path in more:
@@ -56,7 +59,7 @@ def work() -> int:
         parser.add_argument(name, type=Path)
     parser.add_argument("--seeds", type=int, default=3)
     parser.add_argument("--controllers", nargs="+", choices=CONTROLLERS, default=CONTROLLERS, metavar="NAME")
-    parser.add_argument("--program", type=shlex.split, help="its words before `decide`; the built program if left out")
+    parser.add_argument("--program", type=shlex.split, help="its words before `serve`; the built program if left out")
     parser.add_argument("--jobs", type=int, default=1, help="runs side by side")
     options = parser.parse_args()
     if "decide" in options.controllers:

@@ -21,7 +21,7 @@ from ..commands import Words, end
 from ..faults import Fault
 from ..programs import built_program_words
 from .layout import SUMO_HOME, read_greens, read_tables, read_places, vehicles
-from .loop import Loop, asker, run_control
+from .loop import asker, run_control, run_loop
 from .measures import differences, last_line, outcome, run_words
 from .pressure import MaxPressure
 from .to_sumo import convert, element, report_programs, rings, write_routes
@@ -79,9 +79,12 @@ def one_run(options, signals, reports, task):
     name, seed = task
     greens = reports.get(name)
     if name in LOOKING:
-        ask = asker(options.program, options.network, options.folder / f"state.{seed}.csv")
-        controller = Loop(signals, ask) if name == "decide" else MaxPressure(signals)
-        greens = run_control(signals, controller, run_words(options.folder, name, seed, signals))
+        words = run_words(options.folder, name, seed, signals)
+        if name == "decide":
+            with asker(options.program, options.network, options.folder / f"state.{seed}.csv") as ask:
+                greens = run_loop(signals, ask, words)
+        else:
+            greens = run_control(signals, MaxPressure(signals), words)
     else:
         words = run_words(options.folder, name, seed, signals, additional_files(options, signals, name, seed, greens))
         run = subprocess.run(words, capture_output=True, text=True)

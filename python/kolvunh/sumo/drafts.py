@@ -14,6 +14,7 @@ from dataclasses import dataclass, field
 from pathlib import Path
 from typing import NamedTuple
 
+from ..networks import GREAT, SMALL, Limits
 from ..records import rows_of, text_of
 from .demand import Vehicle
 from .groups import MOST_GROUPS, VEHICLE, WALK, Group, Node
@@ -23,11 +24,10 @@ STRAIGHT_SAT, TURNING, SPEED = 500, 0.9, 13.89  # thousandths of a vehicle a sec
 GIVING_SAT, LEAST_SAT, WALK_SAT = 100, 200, 2000  # by a lane of vehicles that give way; by a link; of people on foot
 HEADWAY = 1.0  # seconds between two that drive
 GREATEST, LOSS, WAIT = 50, 2, 3600  # seconds, of each phase
-STEP, MOST_ROUNDS, AFTER = 5, 600, 120  # seconds; rounds; rounds after the last vehicle has started
+STEP, AFTER = 5, 120  # seconds; rounds after the last vehicle has started
 MOST_TRAVEL, MOST_SAT, MOST_TURNS = 120, 5000, 16
 BESIDE = 10  # metres from the middle of an edge to the place of a link that begins or ends there
 NEAR = 30  # metres from a node to a point through which a link leaves it or comes to it
-MOST = {"nodes": 64, "links": 320, "conflicts": 1024}  # that the program takes in one file
 NAMES = ("kind", "name", "sumo")
 RUN = f"[run]\nstep = {STEP}\nlook = 30\ngap = 0\nsplit = true\nage = 20\nhold = 2\n"
 
@@ -213,8 +213,9 @@ class Draft:
             self.told[f"links that are longer than {MOST_TRAVEL} s, and are taken for so long"] = longer
         sizes = {"nodes": len(self.met()), "links": len(self.links), "conflicts": len(list(self.conflicts()))}
         for what, size in sizes.items():
-            if size > MOST[what]:
-                self.told[f"the network has {size} {what}, and the program takes {MOST[what]}: take a part of the map"] = 0
+            most = getattr(GREAT, what)
+            if size > most:
+                self.told[f"the network has {size} {what}, and the program takes {most}: take a part of the map"] = 0
 
     def yields(self, link: Link) -> list[Key]:
         """The links to which one gives way."""
@@ -265,7 +266,7 @@ class Draft:
 
     def rounds(self) -> int:
         """The rounds of a run, from the last arrival."""
-        return min(MOST_ROUNDS, max((second for second, _ in self.arrivals), default=0) // STEP + AFTER)
+        return min(GREAT.rounds, max((second for second, _ in self.arrivals), default=0) // STEP + AFTER)
 
 
 def quoted(names: Iterable[str]) -> str:
@@ -312,7 +313,9 @@ def network_text(draft: Draft) -> str:
         text += f'\n[[node]]\nname = "{nodes[name]}"\n' + "".join(phase_text(draft, node, phase, links) for phase in node.used)
     text += "".join(link_text(draft, link, nodes, links) for link in draft.links.values())
     text += "".join(f'\n[[conflict]]\na = "{links[one]}"\nb = "{links[other]}"\n' for one, other in draft.conflicts())
-    version = 3 if any(f"\n{key} = " in text for key in ("also", "yields", "walk")) else 2
+    sizes = Limits(len(nodes), len(draft.links), len(list(draft.conflicts())), draft.rounds())
+    is_great = any(size > most for size, most in zip(sizes, SMALL))
+    version = 3 if is_great or any(f"\n{key} = " in text for key in ("also", "yields", "walk")) else 2
     return f"version = {version}\n\n{text}"
 
 

@@ -27,8 +27,9 @@ from pathlib import Path
 
 from ..commands import Words, end
 from ..faults import Fault
+from ..networks import MOST_SECONDS
 from .demand import Demand
-from .drafts import MOST_ROUNDS, STEP, Draft, names_in, write_draft
+from .drafts import Draft, names_in, write_draft
 from .groups import Loss, Node
 from .layout import read_greens, read_tables
 from .signals import state_at
@@ -91,7 +92,7 @@ def survey_line(kinds: Counter[str]) -> str:
 
 def demand_of(options: Namespace, streets: Streets) -> Demand:
     """The vehicles and people of the files that are named."""
-    demand = Demand(streets, MOST_ROUNDS * STEP, options.seed)
+    demand = Demand(streets, MOST_SECONDS, options.seed)
     if options.turns:
         demand.read_turns(options.turns)
     if options.counts:

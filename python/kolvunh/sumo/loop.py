@@ -1,4 +1,4 @@
-"""Lets the program decide for SUMO's signals: senses SUMO's vehicles in each round, asks `decide`, shows the greens.
+"""Lets the program decide for SUMO's signals: senses SUMO's vehicles in each round, asks `serve`, shows the greens.
 
     tools/sumo/loop.py NET PLACES ARR DIR [--seed N] [--hours H] [--program WORDS]
 
@@ -24,7 +24,9 @@ from pathlib import Path
 from ..arrivals import Arrival, arrivals_text, read_arrivals
 from ..commands import Words, end
 from ..faults import Fault
+from ..networks import SMALL_SECONDS
 from ..programs import built_program_words
+from ..serving import Refused, Serving
 from .layout import SPEED, SUMO_HOME, read_tables, read_places
 from .measures import differences, outcome, run_words
 from .streets import edge_of
@@ -34,7 +36,7 @@ sys.path.append(f"{SUMO_HOME}/tools")
 SLOW = 5  # metres a second, below which a vehicle joins the queue
 ACCELERATION = 2.6  # metres a second in a second, by which a vehicle speeds up: SUMO's own where a file says no other
 VEHICLE = 1000  # thousandths of a vehicle
-END, KEPT = 18_000, 10_800  # seconds: a state begins before; what is kept of the clock is what a queue may have stood for and counts
+KEPT = 10_800  # seconds of the clock that are kept: what a queue may have stood for and counts
 HOUR = 3600  # seconds
 
 
@@ -46,7 +48,7 @@ class Origin:
 
     def move(self, now):
         """Moves by whole rounds, so that what is left of the clock is at least what counts of how long a queue has stood."""
-        if now - self.second >= END:
+        if now - self.second >= SMALL_SECONDS:
             self.second += (now - self.second - KEPT) // self._step * self._step
 
     def green(self, row):
@@ -121,17 +123,19 @@ def csv_text(rows):
     return text.getvalue()
 
 
+@contextlib.contextmanager
 def asker(program, network, state):
-    """A call of `decide` by the program's words on a network file, over a file for the state."""
+    """Asks a process of `serve` by the program's words on a network file; a state that is refused is left in a file."""
+    with Serving(program, network) as serving:
 
-    def ask(text):
-        state.write_text(text)
-        run = subprocess.run([*program, "decide", str(network), str(state)], capture_output=True, text=True)
-        if run.returncode:
-            raise Fault(f"{state}: {'; '.join(run.stderr.strip().splitlines())}")
-        return run.stdout
+        def ask(text):
+            try:
+                return serving.decide(text)
+            except Refused as fault:
+                state.write_text(text)
+                raise Fault(f"{state}: {fault}") from fault
 
-    return ask
+        yield ask
 
 
 def seconds_to_end(way, speed):
@@ -200,9 +204,9 @@ def repeat_arrivals(path, period, seconds, to):
     to.write_text(arrivals_text(again))
 
 
-def run_loop(signals, ask, words):
+def run_loop(signals, ask, words, sensors=Sensors):
     """Runs SUMO by its words with the program in the loop, and answers the lines of greens of all nodes."""
-    return run_control(signals, Loop(signals, ask), words)
+    return run_control(signals, Loop(signals, ask), words, sensors)
 
 
 def run_control(signals, controller, words, sensors=Sensors):
@@ -234,7 +238,7 @@ def work() -> int:
         parser.add_argument(name, type=Path)
     parser.add_argument("--seed", type=int, default=1)
     parser.add_argument("--hours", type=float, help="how long it runs; as long as the network's rounds if left out")
-    parser.add_argument("--program", type=shlex.split, help="its words before `decide`; the built program if left out")
+    parser.add_argument("--program", type=shlex.split, help="its words before `serve`; the built program if left out")
     options = parser.parse_args()
     folder, seed = options.folder, options.seed
     signals = convert(read_tables(options.network), read_places(options.places), folder)
@@ -244,8 +248,8 @@ def work() -> int:
         arrivals = folder / "arrivals.csv"
         repeat_arrivals(options.arrivals, period, signals.layout.seconds, arrivals)
     write_routes(signals.layout, arrivals, seed, folder / f"routes.{seed}.rou.xml")
-    ask = asker(options.program or built_program_words(), options.network, folder / "state.csv")
-    lines = run_loop(signals, ask, run_words(folder, "loop", seed, signals))
+    with asker(options.program or built_program_words(), options.network, folder / "state.csv") as ask:
+        lines = run_loop(signals, ask, run_words(folder, "loop", seed, signals))
     write_greens(folder / "greens.csv", lines)
     print(outcome(folder, "loop", seed))
     differing = list(differences(folder, "loop", seed, signals, lines))
