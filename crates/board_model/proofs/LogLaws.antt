@@ -9,7 +9,7 @@ use Rattle.board_model.specs.declared.forecasts.Row.{Row}
 use Rattle.board_model.specs.declared.boards.BoardEvent.{BoardEvent}
 use Rattle.board_model.specs.declared.boards.BoardKind.TheVariants.{Read}
 use Rattle.board_model.specs.Forecasts.{IsAboveLast}
-use Rattle.board_model.specs.Boards.{IsLegal, IsReadOf, stamps, published, version_of, newest, after_publish}
+use Rattle.board_model.specs.Boards.{IsLegal, IsReadOf, most_versions, stamps, published, version_of, newest, after_publish}
 use Rattle.board_model.specs.Stored.{IsStored, published_at}
 use Rattle.board_model.proofs.LastOf.{rising-more}
 
@@ -94,7 +94,7 @@ IsStored-read events version place stamp node stored above =
     }
 
 -- a stored log stays one after a Publish
-pub IsStored-publish : (events : List BoardEvent) (version place end stamp node : ℕ) (forecast : List Row) → IsStored events version place → version < 64000000 → end ≡ length events → IsAboveLast (stamps events) stamp → IsStored (after_publish events stamp node forecast) (version + 1) end
+pub IsStored-publish : (events : List BoardEvent) (version place end stamp node : ℕ) (forecast : List Row) → IsStored events version place → version < most_versions → end ≡ length events → IsAboveLast (stamps events) stamp → IsStored (after_publish events stamp node forecast) (version + 1) end
 IsStored-publish events version place end stamp node forecast stored few behind above = record {
   legal = IsLegal-more events _ stored.legal above tt;
   counted = ap (λ (n : ℕ). n + 1) stored.counted ∙ sym (ap length (published-publish events stamp node forecast) ∙ length_push (published events) forecast);

@@ -9,7 +9,7 @@ use Rattle.board_model.specs.declared.boards.BoardKind.TheVariants.{Read, Publis
 
 -- a log has no more versions published
 abbrev pub most_versions : ℕ
-most_versions = 64000000
+most_versions = 4000000000
 
 -- the events of a log, and for how many further ones memory is set aside
 pub record Log : Type 0 where

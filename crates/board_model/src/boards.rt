@@ -75,7 +75,7 @@ pub struct BoardEvent {
 
 impl CrossesThreads for BoardEvent {}
 
-/// The log of one link's board: legal, and with at most 64,000,000 versions published. Contracts see the list of its
+/// The log of one link's board: legal, and with at most 4,000,000,000 versions published. Contracts see the list of its
 /// events, and for how many further events memory is set aside.
 ///
 /// docs/RULES.md, "Board".
@@ -120,7 +120,7 @@ impl BoardLog {
         }
     }
 
-    /// How many forecasts were published, which is the newest version. At most 64,000,000.
+    /// How many forecasts were published, which is the newest version. At most 4,000,000,000.
     ///
     /// docs/RULES.md, "Board".
     pub fn version(&self) -> u32
@@ -192,7 +192,7 @@ impl BoardLog {
     }
 
     /// Adds the event of a publishing, and answers the version that the forecast becomes. The stamp is above the last
-    /// one, fewer than 64,000,000 versions were published, and memory is set aside. It takes none.
+    /// one, fewer than 4,000,000,000 versions were published, and memory is set aside. It takes none.
     ///
     /// docs/RULES.md, "Board".
     pub fn note_publish(&mut self, stamp: u64, node: u32, f: Forecast) -> u32
@@ -240,7 +240,7 @@ impl BoardLog {
     }
 
     /// Publishes a forecast: adds the event, and answers the version that the forecast became. The stamp is above the
-    /// last one, and fewer than 64,000,000 versions were published.
+    /// last one, and fewer than 4,000,000,000 versions were published.
     ///
     /// `Err`: out of memory, with the forecast; all stays as it was.
     ///

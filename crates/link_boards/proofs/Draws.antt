@@ -14,7 +14,7 @@ use Rattle.board_model.specs.declared.forecasts.Row.{Row}
 use Rattle.board_model.specs.declared.boards.BoardEvent.{BoardEvent}
 use Rattle.board_model.specs.declared.calls.Call.{Call}
 use Rattle.board_model.specs.Forecasts.{IsAboveLast}
-use Rattle.board_model.specs.Boards.{IsReadOf, stamps, version_of, after_read, after_publish, forecast_of}
+use Rattle.board_model.specs.Boards.{IsReadOf, most_versions, stamps, version_of, after_read, after_publish, forecast_of}
 use Rattle.board_model.specs.Calls.{calls_at, event_of}
 use Rattle.board_model.proofs.ForBoards.{version_of-few}
 use Rattle.board_model.proofs.ForCallers.{version_of-read, version_of-publish, forecast_of-kept}
@@ -50,7 +50,7 @@ module _ {S : Type 0} (stands : S → List BoardEvent → Type 0) where
     history-is : h.history number ≡ calls
     history-is = (subst (All (Owns h.owner h.history id)) own mine.owns 0 (entry number calls) (omega arith)).1
 
-    pub now-few : now < 64000000
+    pub now-few : now < most_versions
     now-few = let c = h.counted in let o = total_one (λ u. u.left) s.views id v here in omega arith
 
     pub logged-here : IsLogged now h.history link events
@@ -61,7 +61,7 @@ module _ {S : Type 0} (stands : S → List BoardEvent → Type 0) where
       once = ap is_drawn up;
       known = mine.known;
       above = subst (λ es. IsAboveLast (stamps es) now) (sym there) (above-stamps events now logged-here.below);
-      few = subst (λ es. version_of es < 64000000) (sym there) (let a = version_of-few events in let b = log-few events now logged-here.legal logged-here.below in let c = now-few in omega arith);
+      few = subst (λ es. version_of es < most_versions) (sym there) (let a = version_of-few events in let b = log-few events now logged-here.legal logged-here.below in let c = now-few in omega arith);
       past = subst (λ es. All (IsPast es) (calls_at (link_in v.flight) (calls_of v.entries))) (sym there)
           (subst (λ l. All (IsPast events) (calls_at l (calls_of v.entries))) (sym (ap link_in up))
           (subst (λ cs. All (IsPast events) (calls_at link cs)) (history-is ∙ sym (ap calls_of own)) (past-calls now h.history link events logged-here number)));
@@ -177,7 +177,7 @@ module _ {S : Type 0} (stands : S → List BoardEvent → Type 0) where
         logged = λ l. subst (λ k. IsLogged k history-after l (logs-after l)) (sym stamp-set) (logged l);
       }
 
-  no-wrap : (n : ℕ) → n < 64000000 → (n + 1) % 2 ^ 64 ≡ n + 1
+  no-wrap : (n : ℕ) → n < most_versions → (n + 1) % 2 ^ 64 ≡ n + 1
   no-wrap n few = mod-eq_of_lt (omega arith)
 
   module _ (terms : Terms) (slots id link number : ℕ) (me : Hand S) (events : List BoardEvent) (calls : List Call)

@@ -1,8 +1,10 @@
 -- The rule holds of boards that are made.
 use Rattle.board_model.specs.declared.boards.BoardEvent.{BoardEvent}
-use Rattle.std.proofs.Common.{◌≡◌, ℕ, zero, suc, ◌+◌, ◌<◌, ◌≤◌, List, [], ◌∷◌, ◌++◌, map, length, get_or, replicate, sym, refl, ap, ◌∙◌, subst, arith}
+use Rattle.std.proofs.Common.{◌≡◌, ℕ, zero, suc, ◌+◌, ◌-◌, ◌<◌, ◌≤◌, List, [], ◌∷◌, ◌++◌, map, length, get_or, replicate, take, sym, refl, ap, ◌∙◌, subst, arith}
 use Rattle.std.specs.Prelude.{Option, Some, None, All, IfSome, slice_get}
-use Rattle.std.proofs.lemmas.List.FromFn.{length-map-range_with_len}
+use Rattle.std.specs.List.{range_with_len, sum}
+use Rattle.std.proofs.lemmas.List.FromFn.{length-map-range_with_len, map-range_with_len_more}
+use Rattle.std.proofs.lemmas.List.Sums.{sum_by_more, sum_by_more_le}
 use Rattle.std.proofs.lemmas.Option.{none-some}
 use Rattle.std.proofs.lemmas.List.{length-replicate, get_or-replicate}
 use Rattle.std.proofs.lemmas.List.Elements.{All-cons, All-nil, All-tail}
@@ -12,9 +14,10 @@ use Rattle.atomic_table.specs.Table.{opening}
 use Rattle.board_model.specs.Boards.{IsLegal}
 use Rattle.link_boards.specs.declared.views.Terms.{Terms}
 use Rattle.link_boards.specs.declared.views.View.{View}
-use Rattle.link_boards.specs.Views.{entry, first_view}
+use Rattle.link_boards.specs.Views.{calls_of, entry, first_view}
 use Rattle.atomic_table.specs.Seated.{TableId}
-use Rattle.link_boards.specs.Passes.{BoardsView, PassView, AreAllPasses, fresh_pass, fresh_passes}
+use Rattle.link_boards.specs.Passes.{BoardsView, PassView, AreAllPasses, fresh_at, fresh_passes}
+use Rattle.link_boards.specs.Gathered.{pass_view}
 use Rattle.link_boards.proofs.CloseLaws.{all-if, some-weaker}
 use Rattle.board_model.specs.Calls.{Agrees}
 use Rattle.link_boards.specs.Rule.{Owns, IsSeated, Holds}
@@ -68,29 +71,43 @@ module _ {S : Type 0} (stands : S → List BoardEvent → Type 0) where
         };
       }
 
--- one fresh pass more
-pub fresh-more : (id : TableId) (calls a n b m : ℕ) → a + n ≡ b → n + 1 ≡ m → fresh_passes id calls a n ++ fresh_pass id calls b ∷ [] ≡ fresh_passes id calls a m
-fresh-more id calls a n b m there long = subst (λ (z : ℕ × ℕ). fresh_passes id calls a n ++ fresh_pass id calls z.0 ∷ [] ≡ fresh_passes id calls a z.1) (λ i. (there i, (sym next ∙ long) i)) (more a n)
-  where
-    next : n + 1 ≡ suc n
-    next = omega arith
-
-    more : (a n : ℕ) → fresh_passes id calls a n ++ fresh_pass id calls (a + n) ∷ [] ≡ fresh_passes id calls a (suc n)
-    more a zero = let e : a + 0 ≡ a = omega arith in ap (λ k. fresh_pass id calls k ∷ []) e
-    more a (suc n) = let e : a + suc n ≡ (a + 1) + n = omega arith in ap (λ k. fresh_pass id calls a ∷ (fresh_passes id calls (a + 1) n ++ fresh_pass id calls k ∷ [])) e ∙ ap (λ l. fresh_pass id calls a ∷ l) (more (a + 1) n)
-
 -- the fresh passes have the numbers from the first one on
-fresh-each : (id : TableId) (calls from count k n : ℕ) → from + k ≡ n → IfSome (slice_get (fresh_passes id calls from count) k) (λ p. (p.boards ≡ id) × (p.number ≡ n))
+fresh-each : (id : TableId) (calls : List ℕ) (from count k n : ℕ) → from + k ≡ n → IfSome (slice_get (map (fresh_at id calls) (range_with_len from count)) k) (λ p. (p.boards ≡ id) × (p.number ≡ n))
 fresh-each id calls from zero k n there = tt
 fresh-each id calls from (suc count) zero n there = let same : from ≡ n = omega arith in (refl, same)
 fresh-each id calls from (suc count) (suc k) n there = fresh-each id calls (from + 1) count k n (omega arith)
 
 -- they are all passes of boards that have this many
-pub fresh-all : (boards : BoardsView) (calls : ℕ) → AreAllPasses boards (fresh_passes boards.id calls 0 boards.passes)
-fresh-all boards calls = record {
-  count = length-map-range_with_len (fresh_pass boards.id calls) 0 boards.passes;
-  each = λ k. fresh-each boards.id calls 0 boards.passes k k (omega arith);
+pub fresh-all : (boards : BoardsView) (calls : List ℕ) → boards.passes ≡ length calls → AreAllPasses boards (fresh_passes boards.id calls)
+fresh-all boards calls many = record {
+  count = length-map-range_with_len (fresh_at boards.id calls) 0 (length calls) ∙ sym many;
+  each = λ k. fresh-each boards.id calls 0 (length calls) k k (omega arith);
 }
+
+-- one fresh pass more after the others
+pub fresh-next : (id : TableId) (calls : List ℕ) (k : ℕ) (old new : List PassView) (q : PassView) → 1 ≤ k → new ≡ old ++ q ∷ [] → old ≡ map (fresh_at id calls) (range_with_len 1 (k - 1)) → q ≡ fresh_at id calls k
+    → new ≡ map (fresh_at id calls) (range_with_len 1 ((k + 1) - 1))
+fresh-next id calls k old new q one more is next = let places : (k - 1) + 1 ≡ (k + 1) - 1 = omega arith in
+    more ∙ ap (λ l. l ++ q ∷ []) is ∙ ap (λ p. map (fresh_at id calls) (range_with_len 1 (k - 1)) ++ p ∷ []) next
+    ∙ sym (map-range_with_len_more (fresh_at id calls) 1 (k - 1) k (omega arith)) ∙ ap (λ n. map (fresh_at id calls) (range_with_len 1 n)) places
+
+-- the pass of the seat that made the others is the first of the fresh passes
+pub fresh-first : (id seat_id : TableId) (calls : List ℕ) (others : ℕ) (all rest : List PassView) (v : View) → all ≡ pass_view seat_id v 0 (get_or calls 0 0) ∷ rest → others + 1 ≡ length calls → seat_id ≡ id → v.known ≡ 0 → v.entries ≡ entry 0 [] ∷ []
+    → rest ≡ map (fresh_at id calls) (range_with_len 1 others) → all ≡ fresh_passes id calls
+fresh-first id seat_id calls others all rest v whole many of unknown own is = let count : suc others ≡ length calls = omega arith in
+    whole ∙ (λ i. record { boards = of i; number = 0; left = get_or calls 0 0; known = unknown i; calls = calls_of (own i) } ∷ is i) ∙ ap (λ (n : ℕ). map (fresh_at id calls) (range_with_len 0 n)) count
+
+-- the calls of the first pass are those at the first place
+pub sum-first : (calls : List ℕ) → 1 ≤ length calls → sum (take 1 calls) ≡ get_or calls 0 0
+sum-first [] none = absurd (omega arith)
+sum-first (x ∷ xs) any = let all : 0 + x ≡ x = omega arith in all
+
+-- the calls of the first passes, with those of the next one
+pub sum-next : (calls : List ℕ) (k : ℕ) → k < length calls → sum (take (k + 1) calls) ≡ sum (take k calls) + get_or calls k 0
+sum-next calls k within = sum_by_more (λ x. x) calls k 0 within
+
+pub sum-within : (calls : List ℕ) (k : ℕ) → k < length calls → sum (take k calls) + get_or calls k 0 ≤ sum calls
+sum-within calls k within = sum_by_more_le (λ x. x) calls k 0 within
 
 -- all passes of the boards are of the boards
 pub all-of-boards : (boards : BoardsView) (passes : List PassView) → AreAllPasses boards passes → All (λ p. p.boards ≡ boards.id) passes

@@ -83,19 +83,19 @@ module _ {S : Type 0} (stands : S → List BoardEvent → Type 0) where
   }
 
   -- kind 4
-  pub deals-pass : (terms : Terms) (id : ℕ) (v : View) → v.deals ≡ true → v.each ≤ v.left → v.made < terms.passes → Splits (Holds stands terms) id v (dealt v) (newcomer v)
-  deals-pass terms id v does enough more s h here =
+  pub deals-pass : (terms : Terms) (id calls : ℕ) (v : View) → v.deals ≡ true → calls ≤ v.left → v.made < terms.passes → Splits (Holds stands terms) id v (dealt calls v) (newcomer calls v)
+  deals-pass terms id calls v does enough more s h here =
       let mine = h.seats id v here in
       let fresh = mine.deals does in
       let none-yet = fresh.unmade v.made (le_refl v.made) in
-      let views : List View = set s.views id (dealt v) in
+      let views : List View = set s.views id (dealt calls v) in
       let seat : ℕ = length views in
       let owner' : ℕ → Option ℕ = changed h.owner v.made (Some seat) in
       let else-owner : (n j : ℕ) → h.owner n ≡ Some j → owner' n ≡ Some j = λ n j o. changed-else h.owner v.made (Some seat) n (λ e. none-some j (sym none-yet.0 ∙ (ap h.owner (sym e) ∙ o))) ∙ o in
-      moved terms s h (views ++ newcomer v ∷ []) owner'
-      (let p = total_push (λ u. u.left) views (newcomer v) in let t = total_set (λ u. u.left) s.views id v (dealt v) here in omega arith)
-      (seats_push (IsSeated terms s.words h.logs owner' h.history) views (newcomer v)
-      (seats_set (IsSeated terms s.words h.logs owner' h.history) s.views id (dealt v)
+      moved terms s h (views ++ newcomer calls v ∷ []) owner'
+      (let p = total_push (λ u. u.left) views (newcomer calls v) in let t = total_set (λ u. u.left) s.views id v (dealt calls v) here in omega arith)
+      (seats_push (IsSeated terms s.words h.logs owner' h.history) views (newcomer calls v)
+      (seats_set (IsSeated terms s.words h.logs owner' h.history) s.views id (dealt calls v)
       record {
         known = mine.known;
         owns = λ k d within. let o = mine.owns k d within in (else-owner _ id o.0, o.1);
@@ -118,7 +118,7 @@ module _ {S : Type 0} (stands : S → List BoardEvent → Type 0) where
         flies = λ f is. absurd (none-some f is);
         deals = λ is. absurd (true≢false (sym is));
       })
-      (λ f t. flies-push views (newcomer v) f (flies-set s.views id v (dealt v) f here (inl refl) t))
+      (λ f t. flies-push views (newcomer calls v) f (flies-set s.views id v (dealt calls v) f here (inl refl) t))
       (λ n past free. changed-else h.owner v.made (Some seat) n (λ e. omega arith) ∙ free)
 
   -- a seat with no number, no call in flight and nothing to make knows what it knows

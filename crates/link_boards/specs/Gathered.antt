@@ -1,5 +1,5 @@
 -- What a pass and the boards are in the table, and on the way to opened and closed boards. No public clause names these.
-use Rattle.std.specs.Prelude.{◌≡◌, ℕ, ◌+◌, ◌*◌, ◌<◌, ◌≤◌, true, Some, None, List, [], ◌∷◌, length, map, All, IfSome, slice_get}
+use Rattle.std.specs.Prelude.{◌≡◌, ℕ, ◌+◌, ◌<◌, ◌≤◌, true, Some, None, List, [], ◌∷◌, length, map, All, IfSome, slice_get}
 use Rattle.atomic_table.specs.Seated.{TableId}
 use Rattle.atomic_table.specs.Table.{Me}
 use Rattle.board_model.specs.declared.boards.BoardEvent.{BoardEvent}
@@ -16,7 +16,6 @@ pub record AreBoards (id : TableId) (key : Terms) (links passes : ℕ) : Type 0 
   pub words : id.words ≡ links + 1
   pub slots : id.slots ≡ links
   pub terms : key.passes ≡ passes
-  pub small : links ≤ 320
   pub some : 1 ≤ passes
 
 -- what contracts see of a pass of a seat
@@ -32,14 +31,12 @@ pub record IsPass {S : Type 0} (me : Me S View) (number left : ℕ) : Type 0 whe
   pub order : AreInOrder me.0.known (calls_of me.0.entries)
 
 -- pass 0 while the others are made
-pub record IsDealer (calls made : ℕ) (v : View) : Type 0 where
+pub record IsDealer (made : ℕ) (v : View) : Type 0 where
   pub deals : v.deals ≡ true
-  pub each : v.each ≡ calls
   pub next : v.made ≡ made
   pub known : v.known ≡ 0
   pub flight : v.flight ≡ None
   pub entries : v.entries ≡ entry 0 [] ∷ []
-  pub left : 65000000 ≤ v.left + made * 1000000
 
 -- a seat between two calls, with no number and no calls left
 pub record IsCourier {S : Type 0} (me : Me S View) : Type 0 where

@@ -1,5 +1,5 @@
 -- A pass and the boards, as contracts of the boards see them, and what the public calls tell.
-use Rattle.std.specs.Prelude.{◌≡◌, ℕ, ◌+◌, ◌-◌, ◌<◌, ◌≤◌, max, true, false, List, [], ◌∷◌, ◌++◌, length, map, All, IfSome, slice_get, slice_index_or}
+use Rattle.std.specs.Prelude.{◌≡◌, ℕ, ◌+◌, ◌-◌, ◌<◌, ◌≤◌, max, true, false, List, [], ◌∷◌, ◌++◌, length, map, All, IfSome, slice_get, slice_index, slice_index_or}
 use Rattle.std.specs.List.{AllPairs, range_with_len}
 use Rattle.atomic_table.specs.Seated.{TableId}
 use Rattle.board_model.specs.declared.boards.Seen.{Seen}
@@ -35,9 +35,13 @@ pub record AreInOrder (known : ℕ) (calls : List Call) : Type 0 where
 abbrev pub fresh_pass : TableId → ℕ → ℕ → PassView
 fresh_pass id left number = record { boards = id; number = number; left = left; known = 0; calls = [] }
 
--- passes without a call, numbered on from a number
-abbrev pub fresh_passes : TableId → ℕ → ℕ → ℕ → List PassView
-fresh_passes id left from count = map (fresh_pass id left) (range_with_len from count)
+-- the pass with a number that has made no call, and has its place's calls left
+abbrev pub fresh_at : TableId → List ℕ → ℕ → PassView
+fresh_at id calls number = fresh_pass id (slice_index calls number) number
+
+-- the passes without a call, by number: one for each of the calls left
+abbrev pub fresh_passes : TableId → List ℕ → List PassView
+fresh_passes id calls = map (fresh_at id calls) (range_with_len 0 (length calls))
 
 -- the pass after a call: one call left less, the call added, and the next stamp above the call's
 abbrev pub after_call : PassView → Call → PassView

@@ -5,7 +5,7 @@ use Rattle.board_model.specs.declared.forecasts.Row.{Row}
 use Rattle.board_model.specs.declared.boards.BoardEvent.{BoardEvent}
 use Rattle.board_model.specs.declared.calls.Call.{Call}
 use Rattle.board_model.specs.Forecasts.{IsAboveLast}
-use Rattle.board_model.specs.Boards.{stamps, version_of, forecast_of}
+use Rattle.board_model.specs.Boards.{most_versions, stamps, version_of, forecast_of}
 use Rattle.board_model.specs.Calls.{calls_at}
 use Rattle.link_boards.specs.declared.views.View.{View}
 use Rattle.link_boards.specs.Views.{calls_of, link_in, is_drawn, events_in, flight, flying, drew_read, drew_publish}
@@ -24,7 +24,7 @@ pub record HasDrawn (v : View) (stamp : ℕ) : Type 0 where
   pub once : is_drawn v.flight ≡ false
   pub known : v.known ≤ stamp
   pub above : IsAboveLast (stamps (events_in v.flight)) stamp
-  pub few : version_of (events_in v.flight) < 64000000
+  pub few : version_of (events_in v.flight) < most_versions
   pub past : All (IsPast (events_in v.flight)) (calls_at (link_in v.flight) (calls_of v.entries))
 
 module _ {S : Type 0} where

@@ -5,7 +5,7 @@ use lib.ListN.{get_elem?}
 use Rattle.atomic_table.specs.Table.{State}
 use Rattle.board_model.specs.declared.boards.BoardEvent.{BoardEvent}
 use Rattle.board_model.specs.declared.calls.Call.{Call}
-use Rattle.board_model.specs.Boards.{IsLegal}
+use Rattle.board_model.specs.Boards.{IsLegal, most_versions}
 use Rattle.board_model.specs.Calls.{calls_at, event_of, events_by, Agrees}
 use Rattle.link_boards.specs.declared.views.Entry.{Entry}
 use Rattle.link_boards.specs.declared.views.Flight.{Flight}
@@ -67,7 +67,7 @@ module _ {S : Type 0} (stands : S → List BoardEvent → Type 0) where
     pub unmade : (number : ℕ) → terms.passes ≤ number → IsUnmade owner history number
     pub unlinked : (link : ℕ) → length s.homes ≤ link → logs link ≡ []
     pub wide : length s.words ≡ length s.homes + 1
-    pub counted : slice_index s.words 0 + total (λ v. v.left) s.views ≡ 64000000
+    pub counted : slice_index s.words 0 + total (λ v. v.left) s.views ≡ most_versions
     pub seats : (seat : ℕ) (v : View) → get_elem? s.views seat ≡ some v → IsSeated terms s.words logs owner history seat v
     pub links : (link : ℕ) → link < length s.homes → IsLinked s (logs link) link
     pub logged : (link : ℕ) → IsLogged (slice_index s.words 0) history link (logs link)

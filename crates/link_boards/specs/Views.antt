@@ -4,7 +4,7 @@ use Rattle.std.specs.Option.{option_map_or}
 use Rattle.board_model.specs.declared.forecasts.Row.{Row}
 use Rattle.board_model.specs.declared.boards.BoardEvent.{BoardEvent}
 use Rattle.board_model.specs.declared.calls.Call.{Call}
-use Rattle.board_model.specs.Boards.{version_of, newest, after_read, after_publish}
+use Rattle.board_model.specs.Boards.{most_versions, version_of, newest, after_read, after_publish}
 use Rattle.link_boards.specs.declared.views.Entry.{Entry}
 use Rattle.link_boards.specs.declared.views.Flight.{Flight}
 use Rattle.link_boards.specs.declared.views.View.{View}
@@ -44,7 +44,7 @@ events_in f = option_map_or (λ flight. flight.events) f []
 
 -- the view with another flight
 abbrev pub flying : View → Option Flight → View
-flying v f = record { known = v.known; left = v.left; entries = v.entries; flight = f; deals = v.deals; made = v.made; each = v.each }
+flying v f = record { known = v.known; left = v.left; entries = v.entries; flight = f; deals = v.deals; made = v.made }
 
 -- the view after a draw: the next stamp is above, one call left less, the call added to the pass's calls and to the log
 abbrev pub drew : View → ℕ → Call → List BoardEvent → View
@@ -55,7 +55,6 @@ drew v stamp call after = record {
   flight = Some (flight (link_in v.flight) true after);
   deals = v.deals;
   made = v.made;
-  each = v.each;
 }
 
 -- the calls that draw at a link with these events: a reading of the newest version, and a publishing of the next one
@@ -74,27 +73,27 @@ drew_publish forecast v stamp = drew v stamp (publish_call (link_in v.flight) st
 
 -- the first view: pass 0, which makes the others, and has all calls that are left
 abbrev pub first_view : Terms → View
-first_view terms = record { known = 0; left = 64000000; entries = entry 0 [] ∷ []; flight = None; deals = true; made = 1; each = terms.calls }
+first_view terms = record { known = 0; left = most_versions; entries = entry 0 [] ∷ []; flight = None; deals = true; made = 1 }
 
--- pass 0 after a pass was made, and that pass
-abbrev pub dealt : View → View
-dealt v = record { known = v.known; left = v.left - v.each; entries = v.entries; flight = v.flight; deals = v.deals; made = v.made + 1; each = v.each }
+-- pass 0 after a pass with these calls was made, and that pass
+abbrev pub dealt : ℕ → View → View
+dealt calls v = record { known = v.known; left = v.left - calls; entries = v.entries; flight = v.flight; deals = v.deals; made = v.made + 1 }
 
-abbrev pub newcomer : View → View
-newcomer v = record { known = 0; left = v.each; entries = entry v.made [] ∷ []; flight = None; deals = false; made = 0; each = 0 }
+abbrev pub newcomer : ℕ → View → View
+newcomer calls v = record { known = 0; left = calls; entries = entry v.made [] ∷ []; flight = None; deals = false; made = 0 }
 
 -- a courier of what the view knows
 abbrev pub courier : View → View
-courier v = record { known = v.known; left = 0; entries = []; flight = None; deals = false; made = 0; each = 0 }
+courier v = record { known = v.known; left = 0; entries = []; flight = None; deals = false; made = 0 }
 
 -- what a seat that was taken in is left with
 abbrev pub spent : View
-spent = record { known = 0; left = 0; entries = []; flight = None; deals = false; made = 0; each = 0 }
+spent = record { known = 0; left = 0; entries = []; flight = None; deals = false; made = 0 }
 
 -- the view that heard what the other knows
 abbrev pub informed : View → View → View
-informed v w = record { known = max v.known w.known; left = v.left; entries = v.entries; flight = v.flight; deals = v.deals; made = v.made; each = v.each }
+informed v w = record { known = max v.known w.known; left = v.left; entries = v.entries; flight = v.flight; deals = v.deals; made = v.made }
 
 -- the view that took in an ended pass
 abbrev pub ended : View → View → View
-ended v w = record { known = v.known; left = v.left + w.left; entries = v.entries ++ w.entries; flight = v.flight; deals = v.deals; made = v.made; each = v.each }
+ended v w = record { known = v.known; left = v.left + w.left; entries = v.entries ++ w.entries; flight = v.flight; deals = v.deals; made = v.made }

@@ -24,7 +24,7 @@ pub use pass::Pass;
 pub use reads::Drawn;
 pub use rule::{
     BoardRequest, BoardRule, DealPass, DrawPublish, DrawRead, EndPass, GiveTurn, HearCourier,
-    SendCourier, Stands, TakeTurn,
+    PassRequest, SendCourier, Stands, TakeTurn,
 };
 pub use slots::{LinkSlot, Settled};
 pub use views::{Entry, Flight, Terms, View};

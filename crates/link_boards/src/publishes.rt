@@ -1,6 +1,6 @@
 //! A publishing.
 ghost use Rattle.std.specs.Prelude.{◌≡◌, ◌<◌, ◌≤◌, ◌+◌, IfOk, IfErr, OnErr, OnOk, MatchResult};
-ghost use Rattle.board_model.specs.Boards.{after_publish, version_of};
+ghost use Rattle.board_model.specs.Boards.{after_publish, most_versions, version_of};
 ghost use Rattle.link_boards.specs.Views.{drew_publish};
 ghost use Rattle.link_boards.specs.Plays.{HasDrawn};
 ghost use Rattle.link_boards.specs.Passes.{HasSent};
@@ -45,7 +45,7 @@ impl<S: LinkSlot> Boards<S> {
         f: Forecast,
     ) -> u32
         requires table { seat.old.table_id ≡ self.now.id }
-        requires few { version_of (held_events S.absent S.log seat.old.me) < 64000000 }
+        requires few { version_of (held_events S.absent S.log seat.old.me) < most_versions }
         requires prepared { S.prepared (held S.absent seat.old.me) f }
         requires note { CanNote S.absent S.log link stamp
             (after_publish (held_events S.absent S.log seat.old.me) stamp number f) seat.old.me }

@@ -1,5 +1,5 @@
 // The rule of the table, and the names of its steps.
-ghost use Rattle.std.specs.Prelude.{List};
+ghost use Rattle.std.specs.Prelude.{ℕ, List};
 ghost use Rattle.board_model.specs.declared.forecasts.Row.{Row};
 ghost use Rattle.board_model.specs.declared.boards.BoardEvent.{BoardEvent};
 ghost use Rattle.link_boards.specs.Rule.{Holds};
@@ -41,6 +41,17 @@ impl BoardRequest for Brand {
     ghost use Rattle.std.specs.Prelude.{[]};
 
     ghost forecast = { [] };
+}
+
+/// How many calls a pass will have, for the proof alone. A call at `Brand` picks it from its `requires`.
+///
+/// docs/DESIGN.md, "Shared boards".
+pub trait PassRequest {
+    ghost calls: { ℕ };
+}
+
+impl PassRequest for Brand {
+    ghost calls = { 0 };
 }
 
 /// Takes the turn of a link, if it is free.
@@ -86,12 +97,14 @@ impl<S> Play<S, View> for GiveTurn {
 /// Makes a pass.
 ///
 /// docs/DESIGN.md, "Shared boards".
-pub struct DealPass;
+pub struct DealPass<W> {
+    asked: PhantomData<W>,
+}
 
-impl Split<View> for DealPass {
-    ghost left = { dealt };
+impl<W: PassRequest> Split<View> for DealPass<W> {
+    ghost left = { dealt W.calls };
 
-    ghost right = { newcomer };
+    ghost right = { newcomer W.calls };
 }
 
 /// Sends a courier.

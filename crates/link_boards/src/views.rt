@@ -40,8 +40,6 @@ pub struct View {
     pub deals: bool,
     /// How many passes are made, where it makes them.
     pub made: u64,
-    /// How many calls each pass gets, where it makes them.
-    pub each: u64,
 }
 
 /// What the table is told when it is made.
@@ -51,6 +49,4 @@ pub struct View {
 pub struct Terms {
     /// The number of passes.
     pub passes: u64,
-    /// How many calls each pass gets.
-    pub calls: u64,
 }

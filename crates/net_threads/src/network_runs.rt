@@ -28,13 +28,19 @@ use std::sync::Wait;
 use std::thread::{Threads, available_parallelism};
 use task_pool::TaskPool;
 
-/// How many threads do the tasks: one for each processor, two at least, and no more than there are nodes.
-fn threads_for<R: Threads>(rt: &R, nodes: usize) -> usize {
+/// A run has no more threads.
+const MOST_THREADS: usize = 64;
+
+/// How many threads do the tasks: one for each processor, at most 64, and no more than there are nodes. One where the machine does not
+/// say how many processors it has.
+fn threads_for<R: Threads>(rt: &R, nodes: usize) -> usize
+    ensures { (result ≤ 64) × (result ≤ nodes) }
+{
     let processors = match available_parallelism(rt) {
         Ok(processors) => processors.get(),
-        Err(_) => 2,
+        Err(_) => 1,
     };
-    processors.max(2).min(nodes)
+    processors.min(MOST_THREADS).min(nodes)
 }
 
 /// The rounds of a network before the first, whose nodes have passes of other boards for now.
@@ -130,8 +136,8 @@ fn run_in_threads<
 
 /// The run of a network in threads. In each round every node's part is a task of its own: it reads the boards of the links on which it
 /// hears other nodes, plans with its own planner, and publishes on the boards of those on which it tells them. Whichever thread is free
-/// takes the next task, and there are as many threads as processors, two at least; so any two nodes may be at it at once, in whatever
-/// order the machine gives. All tasks of a round are done before the passes meet and the world moves. Each board step is a call of
+/// takes the next task, and there are as many threads as processors, at most 64; so where there are two, any two nodes may be at it at
+/// once, in whatever order the machine gives. All tasks of a round are done before the passes meet and the world moves. Each board step is a call of
 /// the node's own pass, and `gate.before` is called before it.
 ///
 /// There is one planner for each node. The boards have as many links as the network; the passes are all passes of these boards, by

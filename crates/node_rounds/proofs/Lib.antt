@@ -1,4 +1,5 @@
 pub mod Along
+pub mod CallSums
 pub mod FreshPasses
 pub mod HearLaws
 pub mod Made

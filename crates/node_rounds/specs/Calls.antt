@@ -1,5 +1,6 @@
 -- What the calls of the passes tell of a run in threads.
 use Rattle.std.specs.Prelude.{◌≡◌, ℕ, ◌*◌, ◌/◌, ◌≤◌, false, IfSome, Some, List, Contains, length, map, slice_get}
+use Rattle.std.specs.List.{range_with_len}
 use Rattle.board_model.specs.Boards.{Log}
 use Rattle.board_model.specs.Calls.{Agree, AreLogsOf, log_at}
 use Rattle.board_model.specs.declared.calls.Call.{Call}
@@ -30,6 +31,10 @@ MergeToLawful net calls = (logs : List Log) (history : List ℕ) → AreLogsOf c
 abbrev pub IsRunOfCalls : Net → (ℕ → ℕ → ℕ) → (ℕ → List Call) → RunRecord → Type 0
 IsRunOfCalls net arriving calls run = (logs : List Log) (history : List ℕ) → AreLogsOf calls (log_at logs) → Agree calls (log_at logs) → IsMerge logs history
     → IsKeptRun net arriving history run
+
+-- of each node, how many board steps it has in all rounds
+abbrev pub node_calls : Net → List ℕ
+node_calls net = map (λ node. net.run.rounds * length (board_steps net node)) (range_with_len 0 (length net.node_names))
 
 -- each pass has at least as many calls left as its node has board steps in all rounds
 abbrev pub HaveCallsLeft : Net → List PassView → Type 0

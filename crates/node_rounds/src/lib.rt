@@ -3,10 +3,12 @@
 #![tactic(auto)]
 
 mod board_steps;
+mod calls;
 mod laws;
 mod playing;
 mod round_setting;
 
+pub use calls::node_calls;
 pub use laws::law_of_round_calls;
 pub use playing::{begin, play};
 pub use round_setting::RoundSetting;

@@ -1,5 +1,7 @@
 //! The boards and their passes are made, and closed.
-ghost use Rattle.std.specs.Prelude.{◌≡◌, ◌≤◌, [], IfOk, IfErr, All, length};
+ghost use Rattle.std.specs.Prelude.{◌≡◌, ◌≤◌, ◌<◌, ◌^◌, [], IfOk, IfErr, All, length};
+ghost use Rattle.std.specs.List.{sum};
+ghost use Rattle.board_model.specs.Boards.{most_versions};
 ghost use Rattle.link_boards.specs.Passes.{AreAllPasses, AreLogsOfPasses, fresh_passes};
 
 use board_model::BoardLog;
@@ -44,27 +46,22 @@ fn empty_logs(alloc: Global, links: u32) -> Result<Vec<BoardLog>, AllocError>
 }
 
 impl Boards {
-    /// Boards with one empty log for each link, and as many passes as are asked for, with the numbers 0, 1, .., each with
-    /// this number of calls left. There are 1 to 320 links, 1 to 64 passes and 1 to 1,000,000 calls.
+    /// Boards with one empty log for each link, and a pass for each of these numbers of calls left, with the numbers 0, 1, ..
+    /// in their order. There is at least one link and one pass, fewer than 2^32 passes, and at most 4,000,000,000 calls in all.
     ///
     /// `Err`: out of memory.
     ///
     /// docs/DESIGN.md, "Shared boards".
-    pub fn new(
-        alloc: Global,
-        links: u32,
-        passes: u32,
-        calls: u32,
-    ) -> Result<(Boards, Vec<Pass>), AllocError>
-        requires links { (1 ≤ links) × (links ≤ 320) }
-        requires passes { (1 ≤ passes) × (passes ≤ 64) }
-        requires calls { (1 ≤ calls) × (calls ≤ 1000000) }
-        ensures boards { IfOk result (λ r. (r.0.links ≡ links) × (r.0.passes ≡ passes)) }
-        ensures passes { IfOk result (λ r. r.1.items ≡ fresh_passes r.0.id calls 0 passes) }
+    pub fn new(alloc: Global, links: u32, calls: &[u32]) -> Result<(Boards, Vec<Pass>), AllocError>
+        requires links { 1 ≤ links }
+        requires passes { (1 ≤ length calls.now) × (length calls.now < 2 ^ 32) }
+        requires calls { sum calls.now ≤ most_versions }
+        ensures boards { IfOk result (λ r. (r.0.links ≡ links) × (r.0.passes ≡ length calls.now)) }
+        ensures passes { IfOk result (λ r. r.1.items ≡ fresh_passes r.0.id calls.now) }
         ensures all { IfOk result (λ r. AreAllPasses r.0 r.1.items) }
     {
         let logs = empty_logs(alloc, links)?;
-        match link_boards::Boards::over(alloc, logs, passes, calls) {
+        match link_boards::Boards::over(alloc, logs, calls) {
             Ok((shared, all)) => Ok((Boards { shared }, all)),
             Err(_) => Err(AllocError),
         }

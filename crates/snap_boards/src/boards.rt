@@ -1,5 +1,7 @@
 //! The boards and their passes are made, and closed.
-ghost use Rattle.std.specs.Prelude.{◌≡◌, ◌≤◌, [], IfOk, All, length, map, vec_capacity};
+ghost use Rattle.std.specs.Prelude.{◌≡◌, ◌≤◌, ◌<◌, ◌^◌, [], IfOk, All, length, map, vec_capacity};
+ghost use Rattle.std.specs.List.{sum};
+ghost use Rattle.board_model.specs.Boards.{most_versions};
 ghost use Rattle.link_boards.specs.Passes.{AreAllPasses, AreLogsOfPasses, fresh_passes};
 ghost use Rattle.snap_boards.specs.Boards.{AreAllEnds, shared_of};
 ghost use Rattle.snap_boards.specs.Slots.{is_settled};
@@ -73,18 +75,17 @@ fn open<R: Wait>(
     rt: &R,
     alloc: Global,
     slots: Vec<SnapLog>,
-    passes: u32,
-    calls: u32,
+    calls: &[u32],
 ) -> Result<(Boards<SnapLog>, Vec<SnapPass>), AllocError>
-    requires links { length slots.items ≤ 320 }
+    requires links { length slots.items < 2 ^ 32 }
     requires slots { All (λ s. (s.events ≡ []) × is_settled s) slots.items }
-    requires passes { (1 ≤ passes) × (passes ≤ 64) }
-    requires calls { (1 ≤ calls) × (calls ≤ 1000000) }
-    ensures boards { IfOk result (λ r. (r.0.links ≡ length slots.items) × (r.0.passes ≡ passes)) }
-    ensures passes { IfOk result (λ r. r.1.items ≡ fresh_passes r.0.id calls 0 passes) }
+    requires passes { (1 ≤ length calls.now) × (length calls.now < 2 ^ 32) }
+    requires calls { sum calls.now ≤ most_versions }
+    ensures boards { IfOk result (λ r. (r.0.links ≡ length slots.items) × (r.0.passes ≡ length calls.now)) }
+    ensures passes { IfOk result (λ r. r.1.items ≡ fresh_passes r.0.id calls.now) }
     ensures all { IfOk result (λ r. AreAllPasses r.0 r.1.items) }
 {
-    match Boards::over(alloc, slots, passes, calls) {
+    match Boards::over(alloc, slots, calls) {
         Ok(made) => Ok(made),
         Err(slots) => {
             end_all(rt, slots);
@@ -143,9 +144,9 @@ fn close_into<R: Wait>(
 }
 
 impl SnapBoards {
-    /// Boards with one empty log for each link, and as many passes as are asked for, with the numbers 0, 1, .., each with
-    /// this number of calls left. There are 1 to 320 links, of which each has its ends or none; 1 to 64 passes; and 1 to 1,000,000 calls.
-    /// In all ends writer and reader are two of the passes.
+    /// Boards with one empty log for each link, and a pass for each of these numbers of calls left, with the numbers 0, 1, ..
+    /// in their order. There is at least one link and one pass, fewer than 2^32 links and passes, and at most 4,000,000,000 calls in
+    /// all. Each link has its ends or none; in all ends writer and reader are two of the passes.
     ///
     /// `Err`: out of memory. It waits.
     ///
@@ -154,21 +155,20 @@ impl SnapBoards {
         rt: &R,
         alloc: Global,
         ends: &[Option<Ends>],
-        passes: u32,
-        calls: u32,
+        calls: &[u32],
     ) -> Result<(SnapBoards, Vec<SnapPass>), AllocError>
-        requires links { (1 ≤ length ends.now) × (length ends.now ≤ 320) }
-        requires passes { (1 ≤ passes) × (passes ≤ 64) }
-        requires calls { (1 ≤ calls) × (calls ≤ 1000000) }
-        requires ends { AreAllEnds passes ends.now }
-        ensures boards { IfOk result (λ r. (r.0.links ≡ length ends.now) × (r.0.passes ≡ passes)) }
+        requires links { (1 ≤ length ends.now) × (length ends.now < 2 ^ 32) }
+        requires passes { (1 ≤ length calls.now) × (length calls.now < 2 ^ 32) }
+        requires calls { sum calls.now ≤ most_versions }
+        requires ends { AreAllEnds (length calls.now) ends.now }
+        ensures boards { IfOk result (λ r. (r.0.links ≡ length ends.now) × (r.0.passes ≡ length calls.now)) }
         ensures ends { IfOk result (λ r. r.0.ends ≡ ends.now) }
-        ensures passes { IfOk result (λ r. r.1.items ≡ fresh_passes r.0.id calls 0 passes) }
+        ensures passes { IfOk result (λ r. r.1.items ≡ fresh_passes r.0.id calls.now) }
         ensures all { IfOk result (λ r. AreAllPasses (shared_of r.0) r.1.items) }
     {
         let kept = Vec::from_slice(alloc, ends)?;
         let slots = make_all(rt, alloc, ends.len())?;
-        let (shared, all) = open(rt, alloc, slots, passes, calls)?;
+        let (shared, all) = open(rt, alloc, slots, calls)?;
         Ok((SnapBoards { shared, ends: kept }, all))
     }
 
