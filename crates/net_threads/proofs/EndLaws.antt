@@ -2,11 +2,13 @@
 use Rattle.std.proofs.Common.{◌≡◌, ◌≢◌, ℕ, suc, ◌+◌, ◌<◌, List, [], ◌∷◌, ◌++◌, length, map, take, get_or, ap, sym, ◌∙◌, arith}
 use Rattle.std.specs.Prelude.{Option, Some, None, All, IfSome}
 use Rattle.std.proofs.Math.Seq.{take-suc}
-use Rattle.std.proofs.lemmas.List.{map-append}
+use Rattle.std.proofs.lemmas.List.{length-map, map-append}
 use Rattle.std.proofs.lemmas.List.Elements.{All-cons, All-nil, All-tail}
+use Rattle.net_parts.specs.Numbers.{Net}
 use Rattle.net_parts.specs.Outline.{IsLink}
 use Rattle.net_parts.specs.declared.roads.Link.{Link}
 use Rattle.road_net.specs.Joins.{HasEnds}
+use Rattle.road_net.specs.Network.{IsNetwork}
 use Rattle.snap_boards.specs.declared.ends.Ends.{Ends}
 use Rattle.snap_boards.specs.Boards.{AreEnds, AreAllEnds}
 use Rattle.net_threads.specs.Ends.{ends_between, ends_of}
@@ -26,3 +28,7 @@ all-ends nodes (l ∷ ls) bounds joins =
 -- the ends of one link more
 pub ends-more : (links : List Link) (k : ℕ) (d : Link) → k < length links → map ends_of (take k links) ++ ends_of (get_or links k d) ∷ [] ≡ map ends_of (take (k + 1) links)
 ends-more links k d inside = let plus : suc k ≡ k + 1 = omega arith in sym (map-append ends_of (take k links) (get_or links k d ∷ [])) ∙ ap (map ends_of) (sym (take-suc links k d inside) ∙ ap (λ n. take n links) plus)
+
+-- there is one of the ends for each link in a list that was made of them
+pub ends-count : (net : Net) (ends made : List (Option Ends)) → IsNetwork net → ends ≡ made → made ≡ map ends_of net.links → length ends ≡ length net.link_names
+ends-count net ends made network same are = ap length (same ∙ are) ∙ length-map net.links ends_of ∙ network.outline.road_count

@@ -1,4 +1,4 @@
-mod EndLaws
+pub mod EndLaws
 pub mod Passes
 pub mod Rounding
 pub mod TaskLists

@@ -1,5 +1,5 @@
 -- What is so of new passes: that they have made no call, and calls enough, as a run in threads asks; and what that is by their place.
-use Rattle.std.proofs.Common.{◌≡◌, ℕ, zero, suc, ◌+◌, ◌*◌, ◌<◌, ◌≤◌, List, [], length, map, get_or, refl, subst, arith}
+use Rattle.std.proofs.Common.{◌≡◌, ℕ, zero, suc, ◌+◌, ◌*◌, ◌<◌, ◌≤◌, List, [], length, map, get_or, refl, subst, ap, ◌∙◌, arith}
 use Rattle.std.specs.Prelude.{All, IfSome, slice_get}
 use Rattle.std.specs.List.{range_with_len}
 use Rattle.std.proofs.lemmas.List.FromFn.{get_or-map-range_with_len, length-map-range_with_len}
@@ -29,6 +29,10 @@ fresh-count id calls = length-map-range_with_len (fresh_at id calls) 0 (length c
 -- for each node one
 pub node-count : (net : Net) → length (node_calls net) ≡ length net.node_names
 node-count net = length-map-range_with_len (λ node. net.run.rounds * length (board_steps net node)) 0 (length net.node_names)
+
+-- and for each node a number of calls in a list that was made of them
+pub calls-count : (net : Net) (calls made : List ℕ) → calls ≡ made → made ≡ node_calls net → length calls ≡ length net.node_names
+calls-count net calls made same are = ap length (same ∙ are) ∙ node-count net
 
 -- where each has the calls of its node, they have enough
 pub fresh-left : (net : Net) (id : TableId) → HaveCallsLeft net (fresh_passes id (node_calls net))

@@ -12,7 +12,7 @@ use forward_dp::LayerPlanner;
 use net_threads::run_rounds;
 use node_rounds::node_calls;
 use plan_boards::{Boards, Pass};
-use road_net::Network;
+use road_net::{Network, law_of_network};
 use std::alloc::{AllocError, Global};
 use std::sync::Wait;
 use std::test::Fail;
@@ -49,6 +49,7 @@ fn play_anew<R: Threads + Wait + Sync>(
 ) -> Result<u64, AllocError>
     requires { AreArrivals net.now arrivals.now }
 {
+    law_of_network(net);
     let calls = node_calls(alloc, net)?;
     let (boards, mut passes) = Boards::new(alloc, net.links(), calls.as_slice())?;
     play(

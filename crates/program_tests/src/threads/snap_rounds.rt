@@ -13,7 +13,7 @@ use arrivals::{Arrivals, read_arrivals};
 use forward_dp::LayerPlanner;
 use net_threads::{link_ends, run_rounds_snap};
 use node_rounds::node_calls;
-use road_net::Network;
+use road_net::{Network, law_of_network};
 use snap_boards::{SnapBoards, SnapPass};
 use std::alloc::{AllocError, Global};
 use std::sync::Wait;
@@ -53,6 +53,7 @@ fn play_anew<R: Threads + Wait + Sync>(
 ) -> Result<u64, AllocError>
     requires { AreArrivals net.now arrivals.now }
 {
+    law_of_network(net);
     let ends = link_ends(alloc, net)?;
     let calls = node_calls(alloc, net)?;
     let (boards, mut passes) = SnapBoards::new(rt, alloc, ends.as_slice(), calls.as_slice())?;

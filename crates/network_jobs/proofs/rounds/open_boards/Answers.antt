@@ -1,22 +1,12 @@
-use Rattle.std.proofs.Common.{◌≡◌, ℕ, List, [], Option, length, map, subst, sym, ap, ◌∙◌, arith}
+use Rattle.std.proofs.Common.{◌≡◌, ℕ, List, [], Option, length, subst, sym, ap, ◌∙◌, arith}
 use Rattle.std.specs.Prelude.{All}
-use Rattle.std.proofs.lemmas.List.{length-map}
 use Rattle.link_boards.specs.Passes.{PassView, fresh_passes}
-use Rattle.net_parts.specs.Numbers.{Net}
-use Rattle.net_threads.specs.Ends.{ends_of}
-use Rattle.node_rounds.specs.Calls.{HaveCallsLeft, node_calls}
-use Rattle.node_rounds.proofs.FreshPasses.{fresh-count, fresh-left, fresh-none, node-count}
-use Rattle.road_net.specs.Network.{IsNetwork}
+use Rattle.net_threads.proofs.EndLaws.{ends-count}
+use Rattle.node_rounds.specs.Calls.{HaveCallsLeft}
+use Rattle.node_rounds.proofs.FreshPasses.{calls-count, fresh-count, fresh-left, fresh-none}
 use Rattle.snap_boards.specs.declared.ends.Ends.{Ends}
 use Rattle.snap_boards.specs.Boards.{AreAllEnds}
 use Rattle.network_jobs.proofs.rounds.open_boards.Goals as goal
-
--- there is one of the ends for each link, and a number of calls for each node
-ends-count : (net : Net) (ends made : List (Option Ends)) → IsNetwork net → ends ≡ made → made ≡ map ends_of net.links → length ends ≡ length net.link_names
-ends-count net ends made network same are = ap length (same ∙ are) ∙ length-map net.links ends_of ∙ network.outline.road_count
-
-calls-count : (net : Net) (calls made : List ℕ) → calls ≡ made → made ≡ node_calls net → length calls ≡ length net.node_names
-calls-count net calls made same are = ap length (same ∙ are) ∙ node-count net
 
 pub new-requires-clause-links : goal.new-requires-clause-links
 new-requires-clause-links g c =

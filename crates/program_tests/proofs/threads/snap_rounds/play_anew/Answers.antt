@@ -1,0 +1,25 @@
+use Rattle.std.proofs.Common.{ℕ, List, Option, subst, sym, ◌∙◌, arith}
+use Rattle.net_threads.proofs.EndLaws.{ends-count}
+use Rattle.node_rounds.proofs.FreshPasses.{calls-count}
+use Rattle.snap_boards.specs.declared.ends.Ends.{Ends}
+use Rattle.snap_boards.specs.Boards.{AreAllEnds}
+use Rattle.program_tests.proofs.threads.snap_rounds.play_anew.Goals as goal
+
+pub new-requires-clause-links : goal.new-requires-clause-links
+new-requires-clause-links g c =
+    let network = c.law_of_network.ensures in let few = network.outline.link_count in
+    let count = ends-count c.args.net.now c.as_slice.result.now c.in_ok-ends.ends.items network c.as_slice.ensures.value c.in_ok-ends.ensures.ends in (omega arith, omega arith)
+
+pub new-requires-clause-passes : goal.new-requires-clause-passes
+new-requires-clause-passes g c =
+    let few = c.law_of_network.ensures.outline.node_count in
+    let count = calls-count c.args.net.now c.as_slice-2.result.now c.in_ok-calls.calls.items c.as_slice-2.ensures.value c.in_ok-calls.ensures.value in (omega arith, omega arith)
+
+pub new-requires-clause-ends : goal.new-requires-clause-ends
+new-requires-clause-ends g c =
+    let count = calls-count c.args.net.now c.as_slice-2.result.now c.in_ok-calls.calls.items c.as_slice-2.ensures.value c.in_ok-calls.ensures.value in
+    subst (λ (z : ℕ × List (Option Ends)). AreAllEnds z.0 z.1) (λ i. (sym count i, sym c.as_slice.ensures.value i)) c.in_ok-ends.ensures.nodes
+
+pub play-entered-requires-clause-links : goal.play-entered-requires-clause-links
+play-entered-requires-clause-links g c κs within =
+    c.in_ok-boards.ensures.boards.0 ∙ ends-count c.args.net.now c.as_slice.result.now c.in_ok-ends.ends.items c.law_of_network.ensures c.as_slice.ensures.value c.in_ok-ends.ensures.ends
