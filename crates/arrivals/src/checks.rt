@@ -10,7 +10,7 @@ use crate::rows::{ArrivalRow, RowFault};
 use road_net::Network;
 
 /// The most that one row may bring, in thousandths of a vehicle.
-const MOST_OF_ROW: u32 = 1_000_000;
+pub(crate) const MOST_OF_ROW: u32 = 1_000_000;
 
 /// The most that all rows may bring together, in thousandths of a vehicle.
 const MOST_OF_ALL: u32 = 2_000_000_000;

@@ -1,6 +1,6 @@
 -- Factors by which a command scales arrivals.
 use Rattle.std.specs.Prelude.{ℕ, ◌-◌, ◌/◌, ◌^◌, ◌<◌, ◌≤◌}
-use Rattle.scaled_arrivals.specs.Scaling.{greatest_factor}
+use Rattle.arrivals.specs.Scaling.{greatest_factor}
 
 -- the words of a command may name these factors: there are at most 20
 pub record AreFactors (first last step : ℕ) : Type 0 where

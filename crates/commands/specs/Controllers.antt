@@ -18,7 +18,7 @@ use Rattle.net_parts.specs.Numbers.{Net}
 use Rattle.net_simulator.specs.Worlds.{line_in}
 use Rattle.net_simulator.specs.declared.totals.Totals.{Totals}
 use Rattle.runs.specs.declared.records.RunRecord.{RunRecord}
-use Rattle.scaled_arrivals.specs.Scaling.{IsScaled, scaled_whole}
+use Rattle.arrivals.specs.Scaling.{IsScaled, scaled_whole}
 use Rattle.audit.specs.SheetTexts.{HasShape}
 use Rattle.audit.specs.declared.sheet.Sheet.{Sheet}
 use Rattle.signal_safety.specs.Safe.{IsSafe}

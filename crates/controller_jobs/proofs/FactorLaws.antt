@@ -8,7 +8,7 @@ use Rattle.std.proofs.lemmas.List.FromFn.{get_or-map-range_with_len, length-map-
 use Rattle.net_parts.specs.Limits.{most_of_all}
 use Rattle.outside_world.specs.Shelf.{ShelfState}
 use Rattle.net_parts.specs.Numbers.{Net}
-use Rattle.scaled_arrivals.specs.Scaling.{scaled_whole}
+use Rattle.arrivals.specs.Scaling.{scaled_whole}
 use Rattle.command_words.specs.Calls.{Scale}
 use Rattle.commands.specs.Commands.{MissesNothing}
 use Rattle.commands.specs.Controllers.{BringTooMuch, IsScaleLine, IsScaleTable, factors}

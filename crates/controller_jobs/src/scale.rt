@@ -2,6 +2,7 @@
 ghost use Rattle.std.specs.Prelude.{◌≡◌, ◌+◌, ◌-◌, ◌*◌, ◌/◌, ◌≤◌, ◌∷◌, ◌++◌, IfErr, IfOk, OnOk};
 ghost use Rattle.std.specs.List.{join_with_byte};
 ghost use Rattle.arrivals.specs.Amounts.{AreArrivals, arriving_of};
+ghost use Rattle.arrivals.specs.Scaling.{IsScaled, greatest_factor, scaled_whole};
 ghost use Rattle.net_parts.specs.Limits.{most_of_all};
 ghost use Rattle.command_words.specs.Calls.{Scale};
 ghost use Rattle.command_words.specs.Factors.{AreFactors};
@@ -9,16 +10,14 @@ ghost use Rattle.commands.specs.Controllers.{BringTooMuch, IsScaleTable, factors
 ghost use Rattle.commands.specs.Ending.{Makes};
 ghost use Rattle.commands.specs.Outcome.{Outcome};
 ghost use Rattle.commands.specs.Summary.{scale_line, totals_words};
-ghost use Rattle.scaled_arrivals.specs.Scaling.{IsScaled, greatest_factor, scaled_whole};
 ghost use Rattle.controller_jobs.specs.Factors.{GainsScaleLine, RefusesFactor, RefusesFactors};
 
 use super::compare::{actuated_totals, planned_totals};
-use arrivals::Arrivals;
+use arrivals::{Arrivals, ScaleFault, scale};
 use commands::{Made, Named, Refusal, Status, end, fetch_scene};
 use net_simulator::Totals;
 use outside_world::{Shelf, Sink};
 use road_net::Network;
-use scaled_arrivals::{ScaleFault, scale};
 use std::alloc::{AllocError, Global};
 use text_faults::push_one;
 use text_lines::push_number;

@@ -1,5 +1,5 @@
-use Rattle.scaled_arrivals.proofs.ScalingLaws.{HaveEntered}
-use Rattle.scaled_arrivals.proofs.scaled_rows.Given as goal
+use Rattle.arrivals.proofs.ScalingLaws.{HaveEntered}
+use Rattle.arrivals.proofs.scaling.scaled_rows.Given as goal
 
 -- the rows so far have come
 abbrev pub invariant-loop-row : goal.invariant-loop-row

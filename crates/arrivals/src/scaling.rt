@@ -1,23 +1,19 @@
 //! Arrivals scaled by a factor, exactly, by cumulative rounding.
-#![tactic(auto)]
-
 ghost use Rattle.std.specs.Prelude.{◌≡◌, ◌+◌, ◌<◌, ◌≤◌, IfOk, OnOk, length, slice_index, slice_set};
 ghost use Rattle.std.specs.Result.{IsErrOf};
 ghost use Rattle.net_parts.specs.Limits.{most_of_all};
 ghost use Rattle.net_parts.specs.Outline.{known_seconds};
 ghost use Rattle.arrivals.specs.Amounts.{AreArrivals, IsEntry, arriving_of};
 ghost use Rattle.arrivals.specs.Rows.{IsSource};
-ghost use Rattle.scaled_arrivals.specs.Rows.{Brings, HaveCome, next_share};
-ghost use Rattle.scaled_arrivals.specs.Scaling as spec;
-ghost use Rattle.scaled_arrivals.specs.Scaling.{IsScaled, greatest_factor, scaled_whole};
+ghost use Rattle.arrivals.specs.ScaledRows.{Brings, HaveCome, next_share};
+ghost use Rattle.arrivals.specs.Scaling as spec;
+ghost use Rattle.arrivals.specs.Scaling.{IsScaled, greatest_factor, scaled_whole};
 
-use arrivals::{ArrivalRow, Arrivals, RowFault};
+use crate::checks::MOST_OF_ROW;
+use crate::{ArrivalRow, Arrivals, RowFault};
 use foundation::threads::CrossesThreads;
 use road_net::{Network, law_of_network};
 use std::alloc::{AllocError, Global};
-
-/// The most that one row may bring, in thousandths of a vehicle.
-const MOST_OF_ROW: u32 = 1_000_000;
 
 /// Why arrivals are not scaled.
 ///

@@ -5,7 +5,7 @@ use Rattle.road_net.specs.Totals.{total}
 use Rattle.arrivals.specs.Amounts.{amount_to}
 use Rattle.arrivals.specs.Rows.{IsRow, amount_of, arriving_by}
 use Rattle.arrivals.specs.declared.rows.ArrivalRow.{ArrivalRow}
-use Rattle.scaled_arrivals.specs.Scaling.{total_entered, share_of}
+use Rattle.arrivals.specs.Scaling.{total_entered, share_of}
 
 -- new rows are lawful where the old ones are, and bring an amount more to a link in a second
 pub record Brings (net : Net) (link second amount : ℕ) (old new : List ArrivalRow) : Type 0 where

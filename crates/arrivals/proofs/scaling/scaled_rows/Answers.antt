@@ -5,9 +5,9 @@ use Rattle.arrivals.specs.declared.rows.ArrivalRow.{ArrivalRow}
 use Rattle.arrivals.specs.Amounts.{IsBefore, IsEntry}
 use Rattle.arrivals.specs.Rows.{amount_of}
 use Rattle.net_parts.specs.Limits.{most_of_all}
-use Rattle.scaled_arrivals.specs.Rows.{HaveCome}
-use Rattle.scaled_arrivals.proofs.ScalingLaws.{entered-few, entered-next, entered-none}
-use Rattle.scaled_arrivals.proofs.scaled_rows.Goals as goal
+use Rattle.arrivals.specs.ScaledRows.{HaveCome}
+use Rattle.arrivals.proofs.ScalingLaws.{entered-few, entered-next, entered-none}
+use Rattle.arrivals.proofs.scaling.scaled_rows.Goals as goal
 
 pub returns : goal.returns
 returns c =

@@ -1,7 +1,7 @@
 use Rattle.std.proofs.Common.{subst}
 use Rattle.arrivals.specs.Faults.{IsRowFault}
-use Rattle.scaled_arrivals.proofs.ScalingLaws.{come-few, come-over, come-scaled, no-bound, no-link}
-use Rattle.scaled_arrivals.proofs.scale.Goals as goal
+use Rattle.arrivals.proofs.ScalingLaws.{come-few, come-over, come-scaled, no-bound, no-link}
+use Rattle.arrivals.proofs.scaling.scale.Goals as goal
 
 pub returns-in-Ok-new-clause-ok : goal.returns-in-Ok-new-clause-ok
 returns-in-Ok-new-clause-ok c = come-scaled c.args.net.now c.args.factor c.args.arrivals.now c.in-Ok.rows.items c.in-Ok.ensures c.in-Ok-new.scaled c.in-Ok-new.ensures.ok

@@ -24,8 +24,8 @@ use Rattle.arrivals.specs.declared.rows.RowFault.TheVariants.{Bound, Link, Sum}
 use Rattle.arrivals.proofs.RowLaws.{arriving-append, brings, brings-else, brings-here}
 use Rattle.arrivals.proofs.SecondLaws.{to-others, to-this}
 use Rattle.std.specs.Prelude.{AllPairs, slice_index}
-use Rattle.scaled_arrivals.specs.Rows.{Brings, HaveCome, next_share}
-use Rattle.scaled_arrivals.specs.Scaling.{IsScaled, total_entered, scaled_whole, share_of}
+use Rattle.arrivals.specs.ScaledRows.{Brings, HaveCome, next_share}
+use Rattle.arrivals.specs.Scaling.{IsScaled, total_entered, scaled_whole, share_of}
 
 -- what is brought to a link in a second, where it is this one
 abbrev at_place : (link second l x : ℕ) → ℕ → ℕ

@@ -1,6 +1,6 @@
 use Rattle.std.proofs.Common.{◌-◌, ◌≤◌}
-use Rattle.scaled_arrivals.specs.Rows.{Brings}
-use Rattle.scaled_arrivals.proofs.push_amount.Given as goal
+use Rattle.arrivals.specs.ScaledRows.{Brings}
+use Rattle.arrivals.proofs.scaling.push_amount.Given as goal
 
 -- all but what is left was brought
 abbrev pub invariant-loop-left : goal.invariant-loop-left

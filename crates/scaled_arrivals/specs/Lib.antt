@@ -1,3 +1,0 @@
-pub mod Rows
-pub mod Scaling
-pub use Rattle.arrivals.specs.Amounts
