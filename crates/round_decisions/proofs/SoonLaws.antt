@@ -1,24 +1,21 @@
 -- No commit makes a row that begins too late.
-use Rattle.std.proofs.Common.{◌≡◌, ℕ, ◌+◌, ◌<◌, ◌≤◌, List, [], ◌∷◌, All, Option, Some, None, length, refl, sym, ap, subst, ◌∙◌, arith}
+use Rattle.std.proofs.Common.{◌≡◌, ℕ, ◌+◌, ◌<◌, ◌≤◌, List, [], ◌∷◌, All, Option, Some, None, length, refl, sym, ap, subst, arith}
 use Rattle.std.specs.Option.{option_map}
-use Rattle.std.proofs.lemmas.List.{length-map}
 use Rattle.std.proofs.lemmas.List.Elements.{All-cons, All-nil}
 use Rattle.std.proofs.lemmas.Option.{none-some, same_Some}
 use Rattle.board_model.specs.declared.boards.Heard.{Heard}
-use Rattle.clusters.specs.Sound.{ArePlannable, cluster_lists, clusters_of}
+use Rattle.clusters.specs.Sound.{ArePlannable, cluster_lists}
 use Rattle.control_flow.specs.Greens.{BeginBy, head_at, head_in, row_after}
 use Rattle.control_flow.specs.Timelines.{AreServings}
 use Rattle.control_flow.specs.declared.greens.Green.{Green}
 use Rattle.control_flow.proofs.MakingLaws.{line_of-by, line_of-line, rotation_of-by, rotation_of-line}
 use Rattle.control_flow.proofs.RowLaws.{row_after-some}
-use Rattle.control_flow.proofs.SequenceLaws.{next-servings}
 use Rattle.control_flow.proofs.SpliceLaws.{continued, head_in-since}
 use Rattle.control_flow.proofs.TurningLaws.{IsLineFrom}
 use Rattle.intersection_actor.specs.Commits.{Commitment, IsCommit, line_for, phases_of, round_plan}
 use Rattle.intersection_actor.specs.Steps.{ArriveBy}
 use Rattle.intersection_actor.proofs.ArrivalLaws.{window-soon}
-use Rattle.intersection_actor.proofs.RecallLaws.{head-round, lawful-round, length-round, plan-round}
-use Rattle.intersection_actor.proofs.ServedLaws.{schedule-made}
+use Rattle.intersection_actor.proofs.RecallLaws.{lawful-round}
 use Rattle.net_parts.specs.Limits.{most_seconds}
 use Rattle.net_parts.specs.Numbers.{Net}
 use Rattle.net_parts.specs.Outline.{plan_at}
@@ -28,12 +25,12 @@ use Rattle.phase_plan.proofs.RingLaws.{phase-bounds}
 use Rattle.road_net.specs.Network.{IsNetwork}
 use Rattle.road_net.specs.declared.senses.Sensed.{Sensed}
 use Rattle.round_states.specs.States.{farthest_begin}
-use Rattle.runs.proofs.Plannable.{plannable, window-count}
-use Rattle.schedule_meaning.specs.Instances.{IsInstance, Problem, counts_of}
+use Rattle.runs.proofs.Keep as keep
+use Rattle.schedule_meaning.specs.Instances.{counts_of}
 use Rattle.schedule_meaning.specs.declared.planners.Answer.{Answer}
 use Rattle.schedule_meaning.specs.declared.planners.Answer.TheVariants.{Plan, NoPlan}
 use Rattle.signal_safety.proofs.Lines.{plan-is}
-use Rattle.signal_safety.proofs.Rounds.{IsLine, IsSoonHead, head-of}
+use Rattle.signal_safety.proofs.Rounds.{IsLine, IsSoonHead}
 use Rattle.switch_rules.specs.Orders.{one_less}
 use Rattle.switch_rules.specs.Sequences.{AreNextServings}
 use Rattle.switch_rules.specs.Serving.{IsCluster, IsHead, head_after}
@@ -90,39 +87,30 @@ module _ (net : Net) (network : IsNetwork net) (node : ℕ) (below : node < leng
   look = network.outline.run.look.1
 
   soon-head : IsSoonHead (plan_at net node) c.head
-  soon-head = head-of (plan_at net node) old sensed.now c.head line (omega (arith, early)) is.problem.at
+  soon-head = keep.soon-head net network node below round old sensed heard c early line is
 
   ready : ArePlannable (cluster_lists c.window.lists)
-  ready = plannable c.platoons c.window is.problem.taken net network node below c.head sensed early heard is.problem.expected
+  ready = keep.ready net network node below round old sensed heard c early line is
 
   -- the phases of the round
   abbrev phases : List Phase
   phases = round_plan net node sensed
 
   pub phases-plan : IsRing phases
-  phases-plan = plan-round net node sensed plan
+  phases-plan = keep.phases-plan net network node below round old sensed heard c early line is
 
   pub phases-head : IsHead phases c.head
-  phases-head = head-round net node sensed c.head soon-head.is
+  phases-head = (keep.phases-head net network node below round old sensed heard c early line is).is
 
   each : length (cluster_lists c.window.lists) ≡ length phases
-  each =
-      length-map c.window.lists clusters_of ∙ window-count c.platoons c.window is.problem.taken net network node below c.head sensed early heard is.problem.expected
-      ∙ sym (length-round net node sensed)
-
-  instance_is : IsInstance (record { plan = phases; head = c.head; lists = cluster_lists c.window.lists })
-  instance_is = record { plan = phases-plan; head = phases-head; since = soon-head.since; lists = each; clusters = ready.clusters; spaced = ready.spaced; few = ready.few; orders = ready.orders }
-
-  served-next : AreNextServings phases (cluster_lists c.window.lists) (counts_of (cluster_lists c.window.lists)) c.head (phases_of c.answer) c.served
-  served-next = subst (λ (p : Problem). AreNextServings p.plan p.lists (counts_of p.lists) p.head (phases_of c.answer) c.served) is.problem.is
-      (schedule-made c.problem c.answer (phases_of c.answer) c.served (subst IsInstance (sym is.problem.is) instance_is) is.answer refl is.served).next
+  each = keep.each net network node below round old sensed heard c early line is
 
   pub servings : AreServings phases c.head (phases_of c.answer) c.served
-  servings = next-servings phases (cluster_lists c.window.lists) phases-plan each ready.clusters (phases_of c.answer) (counts_of (cluster_lists c.window.lists)) c.head c.served served-next
+  servings = keep.servings net network node below round old sensed heard c early line is
 
   greens : All (λ (s : Served). s.green ≤ sensed.now + farthest_begin) c.served
   greens = greens-soon phases (cluster_lists c.window.lists) phases-plan each ready.clusters (sensed.now + net.run.look) (sensed.now + farthest_begin) (omega (arith, look))
-      (window-soon net node c.head sensed heard c.platoons c.window is.problem.expected is.problem.taken) (phases_of c.answer) (counts_of (cluster_lists c.window.lists)) c.head c.served phases-head served-next
+      (window-soon net node c.head sensed heard c.platoons c.window is.problem.expected is.problem.taken) (phases_of c.answer) (counts_of (cluster_lists c.window.lists)) c.head c.served phases-head (keep.served-next net network node below round old sensed heard c early line is)
 
   abbrev until : ℕ
   until = sensed.now + net.run.look

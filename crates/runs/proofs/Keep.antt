@@ -47,23 +47,23 @@ module _ (net : Net) (network : IsNetwork net) (node : ℕ) (below : node < leng
     look : net.run.look ≤ 180
     look = network.outline.run.look.1
 
-    soon-head : IsSoonHead (plan_at net node) c.head
-    soon-head = head-of (plan_at net node) old sensed.now c.head line (omega arith) is.problem.at
+    pub soon-head : IsSoonHead (plan_at net node) c.head
+    soon-head = head-of (plan_at net node) old sensed.now c.head line (omega (arith, early)) is.problem.at
 
-    ready : ArePlannable (cluster_lists c.window.lists)
+    pub ready : ArePlannable (cluster_lists c.window.lists)
     ready = plannable c.platoons c.window is.problem.taken net network node below c.head sensed early heard is.problem.expected
 
     -- the phases of the round
-    abbrev phases : List Phase
+    abbrev pub phases : List Phase
     phases = round_plan net node sensed
 
-    phases-plan : IsRing phases
+    pub phases-plan : IsRing phases
     phases-plan = plan-round net node sensed plan
 
-    phases-head : IsSoonHead phases c.head
+    pub phases-head : IsSoonHead phases c.head
     phases-head = record { is = head-round net node sensed c.head soon-head.is; since = soon-head.since; reach = soon-head.reach }
 
-    each : length (cluster_lists c.window.lists) ≡ length phases
+    pub each : length (cluster_lists c.window.lists) ≡ length phases
     each =
         length-map c.window.lists clusters_of ∙ window-count c.platoons c.window is.problem.taken net network node below c.head sensed early heard is.problem.expected
         ∙ sym (length-round net node sensed)
@@ -71,17 +71,22 @@ module _ (net : Net) (network : IsNetwork net) (node : ℕ) (below : node < leng
     instance_is : IsInstance (record { plan = phases; head = c.head; lists = cluster_lists c.window.lists })
     instance_is = record { plan = phases-plan; head = phases-head.is; since = soon-head.since; lists = each; clusters = ready.clusters; spaced = ready.spaced; few = ready.few; orders = ready.orders }
 
-    served-next : AreNextServings phases (cluster_lists c.window.lists) (counts_of (cluster_lists c.window.lists)) c.head (phases_of c.answer) c.served
+    pub served-next : AreNextServings phases (cluster_lists c.window.lists) (counts_of (cluster_lists c.window.lists)) c.head (phases_of c.answer) c.served
     served-next = subst (λ (p : Problem). AreNextServings p.plan p.lists (counts_of p.lists) p.head (phases_of c.answer) c.served) is.problem.is
         (schedule-made c.problem c.answer (phases_of c.answer) c.served (subst IsInstance (sym is.problem.is) instance_is) is.answer refl is.served).next
 
-    next : IsNext (plan_at net node) c.head c.next
-    next =
-        let servings = next-servings phases (cluster_lists c.window.lists) phases-plan each ready.clusters (phases_of c.answer) (counts_of (cluster_lists c.window.lists)) c.head c.served served-next in
+    pub servings : AreServings phases c.head (phases_of c.answer) c.served
+    servings = next-servings phases (cluster_lists c.window.lists) phases-plan each ready.clusters (phases_of c.answer) (counts_of (cluster_lists c.window.lists)) c.head c.served served-next
+
+    -- the greens by the phases of the round
+    pub own : IsNext phases c.head c.next
+    own =
         let greens = greens-by phases (cluster_lists c.window.lists) phases-plan each ready.clusters (sensed.now + net.run.look) (window-soon net node c.head sensed heard c.platoons c.window is.problem.expected is.problem.taken)
-        (phases_of c.answer) (counts_of (cluster_lists c.window.lists)) c.head c.served phases-head.is (omega (arith, look)) served-next in
-        let own : IsNext phases c.head c.next = subst (IsNext phases c.head) (sym is.next) (next-line phases c.head c.answer c.served (sensed.now + net.run.look) phases-plan phases-head (omega (arith, look)) servings greens) in
-        record { line = record { lawful = lawful-round net node sensed c.next own.line.lawful; begins = own.line.begins }; goes = own.goes }
+        (phases_of c.answer) (counts_of (cluster_lists c.window.lists)) c.head c.served phases-head.is (omega (arith, look, early)) served-next in
+        subst (IsNext phases c.head) (sym is.next) (next-line phases c.head c.answer c.served (sensed.now + net.run.look) phases-plan phases-head (omega (arith, look, early)) servings greens)
+
+    pub next : IsNext (plan_at net node) c.head c.next
+    next = record { line = record { lawful = lawful-round net node sensed c.next own.line.lawful; begins = own.line.begins }; goes = own.goes }
 
     pub keeps : KeepsLine (plan_at net node) old sensed.now c.line
     keeps = subst (KeepsLine (plan_at net node) old sensed.now) (sym is.line) (spliced-keeps (plan_at net node) old sensed.now c.head c.next plan line is.problem.at next)

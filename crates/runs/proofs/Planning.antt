@@ -1,27 +1,24 @@
 -- Each round of a run continues its nodes' lines within intergreens.
-use Rattle.std.proofs.Common.{◌≡◌, ℕ, zero, suc, ◌+◌, ◌*◌, ◌<◌, ◌≤◌, ◌==◌, max, leb, Bool, true, List, All, Contains, Option, Some, None, length, map, unwrap_or, refl, sym, ap, subst, ◌∙◌, inl, inr, arith, suc-mul, eqb-true}
+use Rattle.std.proofs.Common.{◌≡◌, ℕ, zero, suc, ◌+◌, ◌*◌, ◌<◌, ◌≤◌, ◌==◌, max, leb, Bool, true, List, Contains, Option, Some, None, length, map, unwrap_or, refl, sym, ap, subst, ◌∙◌, inl, inr, arith, suc-mul, eqb-true}
 use Rattle.std.specs.Option.{option_map}
 use Rattle.std.proofs.lemmas.Bool.{cases_lt, le-leb, or_left}
-use Rattle.std.proofs.lemmas.List.{get_or_past, length-map}
+use Rattle.std.proofs.lemmas.List.{get_or_past}
 use Rattle.std.proofs.lemmas.Nat.{div_below}
 use Rattle.std.proofs.lemmas.Option.{none-some, same_Some}
 use Rattle.foundation.proofs.PositionLaws.{list_any-at}
 use Rattle.board_model.specs.declared.boards.Heard.{Heard}
 use Rattle.clusters.specs.Inflow.{no_sense, sense_of}
-use Rattle.clusters.specs.Sound.{ArePlannable, cluster_lists, clusters_of}
+use Rattle.clusters.specs.Sound.{cluster_lists}
 use Rattle.control_flow.specs.Greens.{IsLawful, end_of, row_at}
 use Rattle.control_flow.specs.Recalls.{lose_all, loses_mark, recalled}
 use Rattle.control_flow.specs.Timelines.{AreServings}
 use Rattle.control_flow.specs.declared.greens.Green.{Green}
 use Rattle.control_flow.proofs.RecallLaws.{length-recalled, recalled-at}
-use Rattle.control_flow.proofs.SequenceLaws.{next-servings}
 use Rattle.control_flow.proofs.SpliceLaws.{continued, row-of-head}
 use Rattle.control_flow.proofs.MakingLaws.{line_of-line, rotation_of-line}
 use Rattle.intersection_actor.specs.Commits.{Commitment, IsCommit, is_recalled, line_for, phases_of, plan_by, round_plan}
 use Rattle.intersection_actor.specs.Rounds.{first_head}
 use Rattle.intersection_actor.proofs.ArrivalLaws.{window-soon}
-use Rattle.intersection_actor.proofs.RecallLaws.{head-round, lawful-round, length-round, plan-round}
-use Rattle.intersection_actor.proofs.ServedLaws.{greens-by, schedule-made}
 use Rattle.net_parts.proofs.OutlineLaws.{run-by}
 use Rattle.net_parts.specs.Limits.{most_seconds}
 use Rattle.net_parts.specs.Numbers.{Net}
@@ -36,17 +33,17 @@ use Rattle.phase_plan.specs.declared.Phase.{Phase}
 use Rattle.road_net.specs.Network.{IsNetwork, entry_links}
 use Rattle.road_net.specs.declared.senses.LinkSense.{LinkSense}
 use Rattle.road_net.specs.declared.senses.Sensed.{Sensed}
-use Rattle.schedule_meaning.specs.Instances.{IsInstance, Problem, counts_of}
+use Rattle.schedule_meaning.specs.Instances.{counts_of}
 use Rattle.schedule_meaning.specs.declared.planners.Answer.{Answer}
 use Rattle.schedule_meaning.specs.declared.planners.Answer.TheVariants.{Plan, NoPlan}
 use Rattle.signal_safety.proofs.Lines.{plan-is}
-use Rattle.signal_safety.proofs.Rounds.{IsLine, IsNext, IsSoonHead, head-of, line-next, rotation-next, shows}
+use Rattle.signal_safety.proofs.Rounds.{IsLine, IsNext, IsSoonHead, rotation-next, shows}
 use Rattle.switch_rules.specs.Sequences.{AreNextServings}
 use Rattle.switch_rules.specs.Serving.{IsHead}
 use Rattle.switch_rules.specs.declared.Head.{Head}
 use Rattle.switch_rules.specs.declared.Served.{Served}
 use Rattle.runs.specs.Runs.{AllCommit, line_before, cumulative_by, sensed_in, shown_by}
-use Rattle.runs.proofs.Plannable.{plannable, window-count}
+use Rattle.runs.proofs.Keep as keep
 use Rattle.runs.proofs.Keep.{all-keep}
 use Rattle.waits.specs.Bounds.{planned_bounds, until_recalled}
 use Rattle.waits.specs.Discharges.{AreEmptied, AreWaitsWithin, AreWholeLines, Discharges, intergreens_of, recalled_wait, wait_bounds}
@@ -59,11 +56,6 @@ use Rattle.waits.proofs.Splices.{splice-begins}
 use Rattle.waits.proofs.Intergreens.{intergreens-same, line-intergreens, turned-intergreens}
 use Rattle.waits.proofs.Rounds.{kept}
 use Rattle.waits.proofs.Soon.{next-soon}
-
-next-line : (plan : List Phase) (head : Head) (answer : Answer) (served : List Served) (until : ℕ) → IsRing plan → IsSoonHead plan head → until + 20 ≤ 100000
-    → AreServings plan head (phases_of answer) served → All (λ (s : Served). s.green ≤ 100000) served → IsNext plan head (line_for plan head answer served until)
-next-line plan head (Plan sequence delay) served until p h soon are greens = line-next plan head until p h soon sequence served are greens
-next-line plan head NoPlan served until p h soon are greens = rotation-next plan head until p h soon
 
 next-intergreens : (plan : List Phase) (head : Head) (answer : Answer) (served : List Served) (by look until : ℕ) → IsRing plan → IsHead plan head → head.at ≤ 104000
     → AreServings plan head (phases_of answer) served → by ≤ head.at + look → BeginSoon plan by head (phases_of answer) served → AreIntergreensWithin (longest_intergreen plan look) (line_for plan head answer served until)
@@ -94,48 +86,27 @@ module _ (net : Net) (network : IsNetwork net) (node : ℕ) (below : node < leng
   plan = plan-is net network node below
 
   module _ (round : ℕ) (old : List Green) (sensed : Sensed) (heard : List Heard) (c : Commitment) (early : sensed.now ≤ most_seconds) (line : IsLine (plan_at net node) old) (is : IsCommit net node round old sensed heard c) where
-    look : net.run.look ≤ 180
-    look = network.outline.run.look.1
-
-    soon-head : IsSoonHead (plan_at net node) c.head
-    soon-head = head-of (plan_at net node) old sensed.now c.head line (omega (arith, early)) is.problem.at
-
-    ready : ArePlannable (cluster_lists c.window.lists)
-    ready = plannable c.platoons c.window is.problem.taken net network node below c.head sensed early heard is.problem.expected
-
     -- the phases of the round
     abbrev phases : List Phase
     phases = round_plan net node sensed
 
     phases-plan : IsRing phases
-    phases-plan = plan-round net node sensed plan
+    phases-plan = keep.phases-plan net network node below round old sensed heard c early line is
 
     phases-head : IsSoonHead phases c.head
-    phases-head = record { is = head-round net node sensed c.head soon-head.is; since = soon-head.since; reach = soon-head.reach }
-
-    each : length (cluster_lists c.window.lists) ≡ length phases
-    each =
-        length-map c.window.lists clusters_of ∙ window-count c.platoons c.window is.problem.taken net network node below c.head sensed early heard is.problem.expected
-        ∙ sym (length-round net node sensed)
-
-    instance_is : IsInstance (record { plan = phases; head = c.head; lists = cluster_lists c.window.lists })
-    instance_is = record { plan = phases-plan; head = phases-head.is; since = soon-head.since; lists = each; clusters = ready.clusters; spaced = ready.spaced; few = ready.few; orders = ready.orders }
+    phases-head = keep.phases-head net network node below round old sensed heard c early line is
 
     served-next : AreNextServings phases (cluster_lists c.window.lists) (counts_of (cluster_lists c.window.lists)) c.head (phases_of c.answer) c.served
-    served-next = subst (λ (p : Problem). AreNextServings p.plan p.lists (counts_of p.lists) p.head (phases_of c.answer) c.served) is.problem.is
-        (schedule-made c.problem c.answer (phases_of c.answer) c.served (subst IsInstance (sym is.problem.is) instance_is) is.answer refl is.served).next
+    served-next = keep.served-next net network node below round old sensed heard c early line is
 
     servings : AreServings phases c.head (phases_of c.answer) c.served
-    servings = next-servings phases (cluster_lists c.window.lists) phases-plan each ready.clusters (phases_of c.answer) (counts_of (cluster_lists c.window.lists)) c.head c.served served-next
+    servings = keep.servings net network node below round old sensed heard c early line is
 
     own : IsNext phases c.head c.next
-    own =
-        let greens = greens-by phases (cluster_lists c.window.lists) phases-plan each ready.clusters (sensed.now + net.run.look) (window-soon net node c.head sensed heard c.platoons c.window is.problem.expected is.problem.taken)
-        (phases_of c.answer) (counts_of (cluster_lists c.window.lists)) c.head c.served phases-head.is (omega (arith, look, early)) served-next in
-        subst (IsNext phases c.head) (sym is.next) (next-line phases c.head c.answer c.served (sensed.now + net.run.look) phases-plan phases-head (omega (arith, look, early)) servings greens)
+    own = keep.own net network node below round old sensed heard c early line is
 
     pub next : IsNext (plan_at net node) c.head c.next
-    next = record { line = record { lawful = lawful-round net node sensed c.next own.line.lawful; begins = own.line.begins }; goes = own.goes }
+    next = keep.next net network node below round old sensed heard c early line is
 
     -- where a phase is recalled they are lawful where it has no mark
     pub next-free : (recall k : ℕ) → net.run.recall ≡ Some recall → is_recalled net node sensed recall k ≡ true → IsLawful (freed (plan_at net node) k) c.next
@@ -152,13 +123,13 @@ module _ (net : Net) (network : IsNetwork net) (node : ℕ) (below : node < leng
         (phases_of c.answer) (counts_of (cluster_lists c.window.lists)) c.head c.served served-next in
         let later = (row-of-head (plan_at net node) old sensed.now c.head is.problem.at).later in
         let own : AreIntergreensWithin (longest_intergreen phases net.run.look) c.next = subst (AreIntergreensWithin (longest_intergreen phases net.run.look)) (sym is.next)
-        (next-intergreens phases c.head c.answer c.served (sensed.now + net.run.look) net.run.look (sensed.now + net.run.look) phases-plan phases-head.is (omega (arith, soon-head.reach)) servings (omega (arith, later)) soon) in
+        (next-intergreens phases c.head c.answer c.served (sensed.now + net.run.look) net.run.look (sensed.now + net.run.look) phases-plan phases-head.is (omega (arith, phases-head.reach)) servings (omega (arith, later)) soon) in
         intergreens-same (longest_intergreen phases net.run.look) (longest_intergreen (plan_at net node) net.run.look) (intergreen-round net node sensed net.run.look) c.next own
 
     pub ends-late : sensed.now + net.run.look < end_of c.line
     ends-late =
         let after : sensed.now + net.run.look < end_of c.next = subst (λ (rows : List Green). sensed.now + net.run.look < end_of rows) (sym is.next)
-        (next-ends phases c.head c.answer c.served (sensed.now + net.run.look) phases-plan phases-head.is (omega (arith, soon-head.reach)) servings) in
+        (next-ends phases c.head c.answer c.served (sensed.now + net.run.look) phases-plan phases-head.is (omega (arith, phases-head.reach)) servings) in
         let continues = continued (plan_at net node) old sensed.now c.head c.next plan line.lawful is.problem.at next.line.lawful next.goes in
         omega (arith, after, continues.end, ap end_of is.line)
 
