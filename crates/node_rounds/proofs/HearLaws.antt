@@ -8,31 +8,16 @@ use Rattle.link_boards.specs.Passes.{PassView}
 use Rattle.histories.specs.Steps.{board_steps}
 use Rattle.histories.proofs.StepLaws.{step-count}
 use Rattle.intersection_actor.specs.Acting.{Acting, reading}
-use Rattle.intersection_actor.specs.declared.records.Want.TheVariants.{Read, Commit}
+use Rattle.intersection_actor.specs.declared.records.Want.TheVariants.{Read}
 use Rattle.net_parts.specs.Numbers.{Net}
 use Rattle.road_net.specs.Network.{IsNetwork, heard_links}
 use Rattle.node_rounds.specs.Nodes.{HasHeard, HasRead}
 use Rattle.node_rounds.specs.Told.{heard_of}
-use Rattle.runs.proofs.Heard.{heard-ends}
+use Rattle.runs.proofs.Heard.{heard-ends, reading-more}
 use Rattle.node_rounds.proofs.Made.{all-push, made-more, made-none}
 
 abbrev link_of : Call → ℕ
 link_of call = call.link
-
--- what wants to read has links left, and what does not has none
-reading-more : (links : List ℕ) (link : ℕ) → reading links ≡ Read link → links ≡ link ∷ drop 1 links
-reading-more [] link e = absurd (never e)
-  where
-    never : Commit ≡ Read link → ⊥
-    never e = cc
-reading-more (l ∷ links) link e = ap (λ k. k ∷ links) (same e)
-  where
-    same : Read l ≡ Read link → l ≡ link
-    same e = cc
-
-pub reading-all : (links : List ℕ) → ((link : ℕ) → reading links ≡ Read link → ⊥) → links ≡ []
-reading-all [] none = refl
-reading-all (l ∷ links) none = absurd (none l refl)
 
 pub heard-none : (a : Acting) (p : PassView) → a.want ≡ reading a.left → HasHeard a a p p
 heard-none a p want = record {

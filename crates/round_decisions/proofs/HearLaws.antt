@@ -3,25 +3,11 @@ use Rattle.std.proofs.Common.{◌≡◌, ℕ, suc, ◌<◌, List, [], ◌∷◌,
 use Rattle.std.proofs.lemmas.List.{get_or_default}
 use Rattle.board_model.specs.declared.boards.Heard.{Heard}
 use Rattle.intersection_actor.specs.Acting.{Acting, reading, with_heard}
-use Rattle.intersection_actor.specs.declared.records.Want.TheVariants.{Read, Commit}
+use Rattle.intersection_actor.specs.declared.records.Want.TheVariants.{Read}
 use Rattle.round_states.specs.declared.states.LinkBoard.{LinkBoard}
 use Rattle.round_decisions.specs.Steps.{HasHeard}
+use Rattle.runs.proofs.Heard.{reading-more}
 use Rattle.round_decisions.specs.Turns.{board_of, hearing_on, no_board}
-
--- what wants to read has links left, and what does not has none
-reading-more : (links : List ℕ) (link : ℕ) → reading links ≡ Read link → links ≡ link ∷ drop 1 links
-reading-more [] link e = absurd (never e)
-  where
-    never : Commit ≡ Read link → ⊥
-    never e = cc
-reading-more (l ∷ links) link e = ap (λ k. k ∷ links) (same e)
-  where
-    same : Read l ≡ Read link → l ≡ link
-    same e = cc
-
-pub reading-all : (links : List ℕ) → ((link : ℕ) → reading links ≡ Read link → ⊥) → links ≡ []
-reading-all [] none = refl
-reading-all (l ∷ links) none = absurd (none l refl)
 
 pub heard-none : (boards : List LinkBoard) (a : Acting) → a.want ≡ reading a.left → All (λ link. link < length boards) a.left → HasHeard boards a a
 heard-none boards a want there = record { whole = refl; there = there; want = want; actor = refl }

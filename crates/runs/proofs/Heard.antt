@@ -1,5 +1,5 @@
 -- What a node has heard in a round is what stands at the places of its readings.
-use Rattle.std.proofs.Common.{◌≡◌, ℕ, ◌<◌, true, false, List, Option, Some, None, All, length, map, get_or, is_some, refl, sym, ap, subst, ◌∙◌, inl, inr, arith}
+use Rattle.std.proofs.Common.{◌≡◌, ℕ, ◌<◌, true, false, drop, List, [], ◌∷◌, Option, Some, None, All, length, map, get_or, is_some, refl, sym, ap, subst, ◌∙◌, inl, inr, arith}
 use Rattle.std.specs.Prelude.{Contains, IfSome, unwrap_or}
 use Rattle.std.specs.List.Sorted.{IsStrictlyIncreasing}
 use Rattle.std.proofs.lemmas.Bool.{cases_lt}
@@ -9,7 +9,9 @@ use Rattle.std.proofs.lemmas.List.Kept.{AllPairs-from_increasing, IsStrictlyIncr
 use Rattle.board_model.specs.declared.boards.Heard.{Heard}
 use Rattle.histories.specs.Histories.{version_at}
 use Rattle.histories.specs.Steps.{board_steps, publisher}
+use Rattle.intersection_actor.specs.Acting.{reading}
 use Rattle.intersection_actor.specs.Commits.{Commitment}
+use Rattle.intersection_actor.specs.declared.records.Want.TheVariants.{Read, Commit}
 use Rattle.net_parts.specs.Numbers.{Net, no_link}
 use Rattle.net_parts.specs.Outline.{IsLink, link_at}
 use Rattle.net_parts.specs.declared.roads.Link.{Link}
@@ -87,3 +89,14 @@ module _ (net : Net) (arriving : ℕ → ℕ → ℕ) (h : List ℕ) (heard : �
       let own : get_or (heard_links net n) k 0 ≡ l = ap (λ ls. get_or ls k 0) (sym links) ∙ get_or-map (λ (y : Heard). y.link) (heard r n) k x 0 there.1 ∙ ap (λ (y : Heard). y.link) there.2 in
       let same : k ≡ q = heard-once net n k q (let b = there.1 in omega arith) inside own in
       get_or_default (heard r n) q d x (omega arith) ∙ ap (λ j. get_or (heard r n) j x) (sym same) ∙ there.2
+
+-- what wants to read has links left, and what does not has none
+pub reading-more : (links : List ℕ) (link : ℕ) → reading links ≡ Read link → links ≡ link ∷ drop 1 links
+reading-more [] link e = absurd (never e)
+  where
+    never : Commit ≡ Read link → ⊥
+    never e = cc
+reading-more (l ∷ links) link e = ap (λ k. k ∷ links) (same e)
+  where
+    same : Read l ≡ Read link → l ≡ link
+    same e = cc
