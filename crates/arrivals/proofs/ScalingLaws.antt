@@ -1,5 +1,5 @@
 -- Rows that bring scaled arrivals.
-use Rattle.std.proofs.Common.{◌≡◌, ℕ, zero, suc, ◌+◌, ◌-◌, ◌*◌, ◌/◌, ◌<◌, ◌≤◌, ◌&&◌, ◌==◌, eqb, eq-eqb, cond, List, [], ◌∷◌, ◌++◌, All, filter, length, get_or, replicate, take, sum_by, refl, sym, ap, subst, ◌∙◌, inl, inr, arith}
+use Rattle.std.proofs.Common.{◌≡◌, ℕ, suc, ◌+◌, ◌*◌, ◌/◌, ◌<◌, ◌≤◌, ◌&&◌, ◌==◌, eqb, eq-eqb, cond, List, [], ◌∷◌, ◌++◌, All, filter, length, get_or, replicate, take, sum_by, refl, sym, ap, subst, ◌∙◌, inl, inr, arith}
 use Rattle.std.proofs.lemmas.Bool.{and_parts, cases_Bool, cases_lt, eqb-true}
 use Rattle.std.proofs.lemmas.Bool.Decides.{eqb_tells}
 use Rattle.std.proofs.lemmas.List.{get_or-take, get_or_default, get_or-replicate, get_or-set_same, get_or-set_other, length-replicate, length-set, length-take, take_more}

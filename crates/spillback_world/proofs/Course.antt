@@ -17,7 +17,7 @@ use Rattle.net_simulator.proofs.EveryWorld.{all-there, parts-of, past-still}
 use Rattle.net_simulator.proofs.MoveLaws.{moves_by, cumulative_by}
 use Rattle.net_simulator.proofs.Outside.{all-arrived, comes-none, only-comes}
 use Rattle.net_simulator.proofs.Sound.{AreMoved, rule-moved}
-use Rattle.spillback_world.specs.Filling.{fitting, greatest, has_room}
+use Rattle.spillback_world.specs.Filling.{greatest, has_room}
 use Rattle.spillback_world.specs.StoredTotals.{from_outside, stored_totals}
 use Rattle.spillback_world.specs.Storage.{AreWithin, Opening, held_by, inward, next_goes, opening, cumulative_in, stored_moves}
 use Rattle.spillback_world.proofs.Within.{at-last, before-last, first, held-given, past-last, within}

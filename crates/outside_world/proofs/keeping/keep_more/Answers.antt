@@ -1,4 +1,4 @@
-use Rattle.std.proofs.Common.{◌≡◌, ◌≤◌, ◌+◌, ◌<◌, ℕ, List, ◌++◌, length, length-append, min, ap, vec_capacity, arith, rules, take}
+use Rattle.std.proofs.Common.{◌≡◌, ◌++◌, length, length-append, min, ap, arith, rules, take}
 use Rattle.std.proofs.lemmas.List.{length-take}
 use Rattle.outside_world.proofs.KeepLaws.{front-of, fails-of}
 use Rattle.outside_world.proofs.keeping.keep_more.Goals as goal

@@ -1,4 +1,4 @@
-use Rattle.std.proofs.Common.{◌≡◌, List, ℕ, [], ◌≤◌, ap, arith, refl, sym, subst, ◌∙◌, rules, vec_capacity}
+use Rattle.std.proofs.Common.{List, ℕ, [], ap, arith, refl, sym, subst, ◌∙◌, rules, vec_capacity}
 use Rattle.std.specs.Prelude.{Contains}
 use Rattle.outside_world.specs.MemorySource.{SourceInMemory, source_seen}
 use Rattle.outside_world.proofs.KeepLaws.{in-slices}

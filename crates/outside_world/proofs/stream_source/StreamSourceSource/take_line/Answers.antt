@@ -1,4 +1,4 @@
-use Rattle.std.proofs.Common.{◌≡◌, ◌≢◌, ◌<◌, ◌≤◌, ◌-◌, ◌∙◌, ℕ, List, length, take, drop, min, vec_capacity, arith, refl}
+use Rattle.std.proofs.Common.{◌<◌, ◌-◌, ◌∙◌, take, drop, min, vec_capacity, arith, refl}
 use Rattle.std.proofs.lemmas.List.{length-drop, length-take}
 use Rattle.outside_world.proofs.KeepLaws.{ends-here, goes-on, stream-ended}
 use Rattle.outside_world.proofs.stream_source.StreamSourceSource.take_line.Goals as goal
