@@ -3,6 +3,7 @@ use Rattle.std.specs.Prelude.{ℕ, ◌<◌, ◌^◌, nat_lt, Bool, if◌then◌e
 use Rattle.control_flow.specs.Greens.{row_at}
 use Rattle.control_flow.specs.declared.greens.Green.{Green}
 use Rattle.net_parts.specs.Numbers.{Net}
+use Rattle.net_simulator.specs.declared.totals.LinkTotals.{LinkTotals}
 use Rattle.road_net.specs.Through.{is_through}
 
 -- the second that has to lie before the end of the run for a row to be told, after one that ends at `last`: of a node that is through
@@ -29,3 +30,9 @@ pub record IsToldGreen (green : Green) : Type 0 where
   pub phase : green.phase < 2 ^ 8
   pub from : green.from < 2 ^ 32
   pub to : green.to < 2 ^ 32
+
+-- totals of a link that a report can tell: numbers of 64 bits
+pub record AreToldCounts (totals : LinkTotals) : Type 0 where
+  pub entered : totals.entered < 2 ^ 64
+  pub left : totals.left < 2 ^ 64
+  pub delay : totals.delay < 2 ^ 64

@@ -2,12 +2,13 @@
 ghost use Rattle.std.specs.Prelude.{◌≡◌, ◌<◌, ℕ, [], ◌∷◌, All, IfOk, OnOk, length, map};
 ghost use Rattle.std.specs.List.{flat_map, range_with_len};
 ghost use Rattle.control_flow.specs.Greens.{row_at};
+ghost use Rattle.net_simulator.specs.Counts.{counts_at};
 ghost use Rattle.net_simulator.specs.Sums as sums;
 ghost use Rattle.road_net.specs.Through.{is_through};
 ghost use Rattle.world_records.specs.Records as records;
 ghost use Rattle.world_records.specs.Records.{counted_records, green_record, green_records, link_record, link_record_of};
 ghost use Rattle.world_records.specs.Records.{shown_records, total_record};
-ghost use Rattle.world_records.specs.Told.{IsToldGreen, told_by, told_line, told_rows};
+ghost use Rattle.world_records.specs.Told.{AreToldCounts, IsToldGreen, told_by, told_line, told_rows};
 ghost use Rattle.world_records.specs.Written.{Adds};
 
 use crate::digits::digits_of;
@@ -20,8 +21,8 @@ use road_net::Network;
 use std::alloc::{AllocError, Global};
 
 /// Writes what lines show and what was counted: the greens that are told of each line, by node and time, the totals of each
-/// link, and all totals. There are a line for each node and totals of each link. A report can tell these greens. `Err`: out
-/// of memory.
+/// link, and all totals. There are a line for each node and totals of each link. A report can tell these greens, and the totals
+/// of each link. `Err`: out of memory.
 ///
 /// docs/FORMATS.md, "Report".
 pub fn write_shown(
@@ -37,6 +38,8 @@ pub fn write_shown(
         (shown_records net.now lines.now links.now totals (sums.end_of_run net.now))) }
     ensures told { OnOk result ((node : ℕ) → node < length net.now.node_names
         → All IsToldGreen (told_line net.now lines.now (sums.end_of_run net.now) node)) }
+    ensures counts { OnOk result ((link : ℕ) → link < length net.now.link_names
+        → AreToldCounts (counts_at links.now link)) }
 {
     write_greens(net, lines, end_of_run(net), out)?;
     write_counted(net, links, totals, out)
@@ -50,7 +53,9 @@ fn write_counted(
     out: &mut Writer<Vec<u8>>,
 ) -> Result<(), AllocError>
     requires { length links.now ≡ length net.now.link_names }
-    ensures { OnOk result (Adds out.old out.new (counted_records net.now links.now totals)) }
+    ensures records { OnOk result (Adds out.old out.new (counted_records net.now links.now totals)) }
+    ensures counts { OnOk result ((link : ℕ) → link < length net.now.link_names
+        → AreToldCounts (counts_at links.now link)) }
 {
     write_links(net, links, out)?;
     write_totals(totals, out)
@@ -174,8 +179,10 @@ fn write_links(
     out: &mut Writer<Vec<u8>>,
 ) -> Result<(), AllocError>
     requires { length totals.now ≡ length net.now.link_names }
-    ensures { OnOk result (Adds out.old out.new
+    ensures records { OnOk result (Adds out.old out.new
         (map (link_record_of net.now totals.now) (range_with_len 0 (length net.now.link_names)))) }
+    ensures counts { OnOk result ((link : ℕ) → link < length net.now.link_names
+        → AreToldCounts (counts_at totals.now link)) }
 {
     for link in 0..net.links() {
         write_link(net, link, totals[link as usize], out)?;
@@ -191,7 +198,8 @@ fn write_link(
     out: &mut Writer<Vec<u8>>,
 ) -> Result<(), AllocError>
     requires { link < length net.now.link_names }
-    ensures { OnOk result (Adds out.old out.new (link_record net.now link totals ∷ [])) }
+    ensures records { OnOk result (Adds out.old out.new (link_record net.now link totals ∷ [])) }
+    ensures told { AreToldCounts totals }
 {
     let entered = digits_of(totals.entered);
     let left = digits_of(totals.left);

@@ -12,5 +12,5 @@ returns c =
     IfOk-weaker c.finish.result _ (λ (text : Vec ℕ Global). text.items ≡ counted_text net links c.args.totals)
     (λ text says. says (counted_text net links c.args.totals)
     (counted-after net links c.args.totals c.start-out.result c.write_header.new.out c.write_counted.new.out
-    (subst (HasWritten c.start-out.result) c.new.ensures.items c.start-out.ensures) c.in_ok-write_header.ensures c.in_ok-write_counted.ensures))
+    (subst (HasWritten c.start-out.result) c.new.ensures.items c.start-out.ensures) c.in_ok-write_header.ensures c.in_ok-write_counted.ensures.records))
     c.finish.ensures
