@@ -14,11 +14,12 @@ use Rattle.net_simulator.proofs.Passing.{delay-small, entered-small, gone-most, 
 use Rattle.net_simulator.proofs.Sums.{total-of}
 use Rattle.audit.specs.declared.sheet.Sheet.{Sheet}
 use Rattle.audit.specs.SheetTexts.{HasShape, IsSheetText}
-use Rattle.audit.specs.WrittenSheets.{AreToldCounts, AreToldSums, CanBeTold, IsPassedOver, cut_at, sheet_records}
+use Rattle.audit.specs.LineReports.{cut_at}
+use Rattle.audit.specs.WrittenSheets.{AreToldSums, CanBeTold, IsPassedOver, sheet_records}
 use Rattle.audit.proofs.SheetTextLaws.{one-sheet}
 use Rattle.audit.proofs.WrittenSheetLaws.{written-sheet}
 use Rattle.world_records.specs.Records.{header, records_text}
-use Rattle.world_records.specs.Told.{IsToldGreen, told_line}
+use Rattle.world_records.specs.Told.{AreToldCounts, IsToldGreen, told_line}
 use Rattle.audit.specs.Audits.{IsClean, IsCleanText}
 use Rattle.net_simulator.specs.Shown.{cumulative_of_lines}
 use Rattle.audit.proofs.CutLaws.{cut-clean, cut-line}

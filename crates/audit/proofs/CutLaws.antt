@@ -23,7 +23,7 @@ use Rattle.road_net.specs.Through.{is_through}
 use Rattle.world_records.specs.Told.{told_after, told_by, told_line}
 use Rattle.world_records.proofs.ToldSigns.{row-late, row-told}
 use Rattle.audit.specs.declared.sheet.Sheet.{Sheet}
-use Rattle.audit.specs.WrittenSheets.{cut_at}
+use Rattle.audit.specs.LineReports.{cut_at}
 use Rattle.audit.specs.Audits.{AreLawful, IsClean}
 use Rattle.audit.proofs.ToldGreens as told
 use Rattle.audit.proofs.ToldGreens.{told-alike}

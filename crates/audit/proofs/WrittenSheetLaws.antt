@@ -19,13 +19,14 @@ use Rattle.net_simulator.specs.declared.totals.LinkTotals.{LinkTotals}
 use Rattle.net_simulator.specs.declared.totals.Totals.{Totals}
 use Rattle.road_net.specs.Network.{IsNetwork}
 use Rattle.world_records.specs.Records.{green_record, green_records, header, link_record, link_record_of, records_text, total_record}
-use Rattle.world_records.specs.Told.{IsToldGreen, told_line}
+use Rattle.world_records.specs.Told.{AreToldCounts, IsToldGreen, told_line}
 use Rattle.world_records.proofs.RecordLaws.{HasField, header-first, read-records}
 use Rattle.audit.specs.declared.sheet.Sheet.{Sheet}
 use Rattle.audit.specs.SheetTexts.{IsSheetOf, IsSheetText, NamesNode, counts_of, form, green_of, link_of, sums_of}
 use Rattle.record_text.specs.Forms.{AreRecordsOf}
 use Rattle.audit.specs.SheetRecords.{Counts, Ignored, Shows, Sums, SheetRecord, parse_fields, parse, parse_green, parse_counts, parse_sums}
-use Rattle.audit.specs.WrittenSheets.{AreToldCounts, AreToldSums, CanBeTold, IsPassedOver, cut_at, sheet_records}
+use Rattle.audit.specs.LineReports.{cut_at}
+use Rattle.audit.specs.WrittenSheets.{AreToldSums, CanBeTold, IsPassedOver, sheet_records}
 use Rattle.audit.proofs.SheetFieldLaws.{some-number}
 
 -- two lists that are read one after the other

@@ -1,12 +1,10 @@
 -- The records by which a sheet is told. No public clause names these definitions.
-use Rattle.std.specs.Prelude.{◌≡◌, ℕ, ◌<◌, ◌^◌, List, [], Some, All, length, map, slice_index_or}
-use Rattle.std.specs.List.{range_with_len}
+use Rattle.std.specs.Prelude.{◌≡◌, ℕ, ◌<◌, ◌^◌, List, [], Some, All, length, slice_index_or}
 use Rattle.net_parts.specs.Numbers.{Net}
 use Rattle.net_simulator.specs.Counts.{counts_at}
-use Rattle.net_simulator.specs.declared.totals.LinkTotals.{LinkTotals}
 use Rattle.net_simulator.specs.declared.totals.Totals.{Totals}
 use Rattle.world_records.specs.Records.{shown_records}
-use Rattle.world_records.specs.Told.{IsToldGreen, told_line}
+use Rattle.world_records.specs.Told.{AreToldCounts, IsToldGreen}
 use Rattle.audit.specs.declared.sheet.Sheet.{Sheet}
 use Rattle.audit.specs.SheetRecords.{Ignored, parse}
 
@@ -14,24 +12,11 @@ use Rattle.audit.specs.SheetRecords.{Ignored, parse}
 abbrev pub IsPassedOver : List (List ℕ) → Type 0
 IsPassedOver fields = parse fields ≡ Some Ignored
 
--- the sheet with the greens alone that a report tells of each line up to a second
-abbrev pub cut_at : Net → ℕ → Sheet → Sheet
-cut_at net end s = record {
-  lines = map (told_line net s.lines end) (range_with_len 0 (length net.node_names));
-  links = s.links;
-  totals = s.totals;
-}
-
 -- the records of the greens that are told up to a second, by node and time, of the totals of each link, and of all totals
 abbrev pub sheet_records : Net → ℕ → Sheet → List (List (List ℕ))
 sheet_records net end s = shown_records net s.lines s.links s.totals end
 
--- totals that a sheet can have: numbers of 64 bits
-pub record AreToldCounts (totals : LinkTotals) : Type 0 where
-  pub entered : totals.entered < 2 ^ 64
-  pub left : totals.left < 2 ^ 64
-  pub delay : totals.delay < 2 ^ 64
-
+-- totals of the network that a sheet can have: numbers of 64 bits
 pub record AreToldSums (totals : Totals) : Type 0 where
   pub entered : totals.entered < 2 ^ 64
   pub left : totals.left < 2 ^ 64

@@ -3,9 +3,9 @@
 ghost use Rattle.std.specs.Prelude.{◌≡◌, ◌≤◌, ℕ, IfOk};
 ghost use Rattle.net_parts.specs.Limits.{most_of_all};
 ghost use Rattle.audit.specs.Audits.{IsClean, IsCleanText};
-ghost use Rattle.net_simulator.specs.Sums.{total_arrived};
-ghost use Rattle.audit.specs.SheetTexts.{HasShape};
-ghost use Rattle.audit.specs.LineReports.{line_text};
+ghost use Rattle.net_simulator.specs.Sums.{end_of_run, total_arrived};
+ghost use Rattle.audit.specs.SheetTexts.{HasShape, IsSheetText};
+ghost use Rattle.audit.specs.LineReports.{cut_at, line_text};
 
 use control_flow::greens::Timeline;
 use net_simulator::{LinkTotals, Totals};
@@ -15,8 +15,8 @@ use world_records::{finish, start, write_header, write_shown};
 
 /// The report of lines and totals: the header, the greens that are told up to the end of the run, by node and time, the
 /// totals of each link, and all totals. It has no steps and no plans. There are a line for each node and totals of
-/// each link. Where what it says is clean for arrivals of at most 2,000,000,000 in all, the text is read as a clean
-/// sheet. `Err`: out of memory.
+/// each link. The text is that of the sheet of these greens and totals. Where what it says is clean for arrivals of at most
+/// 2,000,000,000 in all, the text is read as a clean sheet. `Err`: out of memory.
 ///
 /// docs/FORMATS.md, "Report".
 pub fn line_report(
@@ -29,6 +29,8 @@ pub fn line_report(
     requires { HasShape net.now (record { lines = lines.now; links = links.now; totals = totals }) }
     ensures text { IfOk result (λ text. text.items
         ≡ line_text net.now (record { lines = lines.now; links = links.now; totals = totals })) }
+    ensures sheet { IfOk result (λ text. IsSheetText net.now text.items
+        (cut_at net.now (end_of_run net.now) (record { lines = lines.now; links = links.now; totals = totals }))) }
     ensures clean { (arriving : ℕ → ℕ → ℕ) → ((n : ℕ) → total_arrived net.now arriving n ≤ most_of_all)
         → IsClean net.now arriving (record { lines = lines.now; links = links.now; totals = totals })
         → IfOk result (λ text. IsCleanText net.now arriving text.items) }

@@ -1,7 +1,8 @@
 -- What `spill` writes: what two controllers come to where links hold so much and no more, or the report of the run of one of them.
 use Rattle.std.specs.Prelude.{◌≡◌, ℕ, List, ◌++◌, codes, slice_index}
 use Rattle.audit.specs.Audits.{AreLawful}
-use Rattle.audit.specs.LineReports.{line_text}
+use Rattle.audit.specs.LineReports.{cut_at, line_text}
+use Rattle.audit.specs.SheetTexts.{IsSheetText}
 use Rattle.audit.specs.declared.sheet.Sheet.{Sheet}
 use Rattle.histories.specs.Histories.{turn_order}
 use Rattle.net_parts.specs.Numbers.{Net}
@@ -53,7 +54,8 @@ spill_sheet net arriving store run = record {
 }
 
 -- The bytes are the report of the run under actuated control in the world with the store: its last lines are lawful and safe, and show
--- the signs by which that world moved; all totals are what is counted in that world.
+-- the signs by which that world moved; all totals are what is counted in that world. The bytes are the text of the sheet with the
+-- greens that the report tells of these lines, and with these totals.
 pub record IsSpillReport (net : Net) (arriving : ℕ → ℕ → ℕ) (store : List ℕ) (bytes : List ℕ) : Type 0 where
   pub run : SpillRun
   pub runs : IsSpillRun net arriving (slice_index store) run
@@ -62,3 +64,4 @@ pub record IsSpillReport (net : Net) (arriving : ℕ → ℕ → ℕ) (store : L
   pub signs : LastLinesShow net runs.actuated.made
   pub counts : CountsLastLines net arriving (slice_index store) run
   pub report : bytes ≡ line_text net (spill_sheet net arriving store run)
+  pub sheet : IsSheetText net bytes (cut_at net (end_of_run net) (spill_sheet net arriving store run))

@@ -1,12 +1,13 @@
 //! The command `spill NET ARR STORE actuated`.
 ghost use Rattle.std.specs.Prelude.{◌≡◌, IfOk, length};
 ghost use Rattle.arrivals.specs.Amounts.{AreArrivals, arriving_of};
-ghost use Rattle.audit.specs.LineReports.{line_text};
-ghost use Rattle.audit.specs.SheetTexts.{HasShape};
+ghost use Rattle.audit.specs.LineReports.{cut_at, line_text};
+ghost use Rattle.audit.specs.SheetTexts.{HasShape, IsSheetText};
 ghost use Rattle.command_words.specs.Calls.{SpillActuated};
 ghost use Rattle.commands.specs.Ending.{Makes};
 ghost use Rattle.commands.specs.Outcome.{Outcome};
 ghost use Rattle.commands.specs.Storages.{IsSpillReport, told_totals};
+ghost use Rattle.net_simulator.specs.Sums.{end_of_run};
 
 use arrivals::Arrivals;
 use audit::line_report;
@@ -28,8 +29,10 @@ fn report_text(
 ) -> Result<Vec<u8>, AllocError>
     requires { HasShape net.now
         (record { lines = run.now.timelines; links = links.now; totals = told_totals run.now.totals }) }
-    ensures { IfOk result (λ text. text.items ≡ line_text net.now
+    ensures text { IfOk result (λ text. text.items ≡ line_text net.now
         (record { lines = run.now.timelines; links = links.now; totals = told_totals run.now.totals })) }
+    ensures sheet { IfOk result (λ text. IsSheetText net.now text.items (cut_at net.now (end_of_run net.now)
+        (record { lines = run.now.timelines; links = links.now; totals = told_totals run.now.totals }))) }
 {
     let lines = run.timelines.as_slice();
     let all = &run.totals;
@@ -80,7 +83,8 @@ fn spill_report_files<S: Shelf>(
 
 /// The command `spill NET ARR STORE actuated`: writes the report of the run under actuated control which senses the world whose
 /// links hold what the store says, with the network, the arrivals and the store in the files. Its greens are lawful and the
-/// network is safe under them; its totals are those of that world. It has no plans and no board steps.
+/// network is safe under them; its totals are those of that world. It is read as the sheet of these. It has no plans and no board
+/// steps.
 ///
 /// Each status has its cause, and each refusal writes its line to `err`, as `signal` says.
 ///

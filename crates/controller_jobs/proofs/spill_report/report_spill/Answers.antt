@@ -1,7 +1,8 @@
-use Rattle.std.proofs.Common.{◌≡◌, List, length, slice_index, ap, ◌∙◌}
+use Rattle.std.proofs.Common.{◌≡◌, List, length, slice_index, ap, subst, ◌∙◌}
 use Rattle.std.proofs.lemmas.List.FromFn.{length-map-range_with_len}
 use Rattle.arrivals.specs.Amounts.{arriving_of}
-use Rattle.audit.specs.LineReports.{line_text}
+use Rattle.audit.specs.LineReports.{cut_at, line_text}
+use Rattle.audit.specs.SheetTexts.{IsSheetText}
 use Rattle.audit.specs.declared.sheet.Sheet.{Sheet}
 use Rattle.control_flow.specs.declared.greens.Green.{Green}
 use Rattle.net_simulator.specs.Sums.{end_of_run, link_totals}
@@ -37,5 +38,6 @@ returns c =
       safe = ran.safe;
       signs = ran.signs ran.run;
       counts = ran.counts;
-      report = c.in_ok-text.ensures ∙ ap (λ (all : List LinkTotals). line_text net (sheet all)) links;
+      report = c.in_ok-text.ensures.text ∙ ap (λ (all : List LinkTotals). line_text net (sheet all)) links;
+      sheet = subst (λ (all : List LinkTotals). IsSheetText net c.in_ok-text.text.items (cut_at net (end_of_run net) (sheet all))) links c.in_ok-text.ensures.sheet;
     }
