@@ -84,6 +84,14 @@ class NodeTest(unittest.TestCase):
         node = Node("a", moves(*(f"e{place}_0" for place in range(6))), states, Crossroads())
         self.assertEqual(([loss.kind for loss in node.losses], node.used), (["phase left out"], [0, 2, 3, 4]))
 
+    def test_lanes_that_differ_in_a_phase_alone_that_is_left_out(self) -> None:
+        """They are one link, as they are green in the same phases of the file; where those stay in which they differ they are two."""
+        states = [(20, "GGrrrr"), (8, "GrGrrr"), (20, "rrGGrr"), (20, "rrrrGr"), (20, "rrrrrG")]
+        lanes = moves("west_0", "west_1", *(f"e{place}_0" for place in range(4)))
+        self.assertEqual([group.lanes for group in Node("a", lanes, states, Crossroads()).groups][-1], ["west_0", "west_1"])
+        node = Node("a", lanes, [*states[:2], states[3], states[4]], Crossroads())
+        self.assertEqual([group.lanes for group in node.groups if group.edge == "west"], [["west_0"], ["west_1"]])
+
     def test_no_nodes(self) -> None:
         one = Node("a", moves("west_0"), [(30, "G"), (3, "y")], Crossroads())
         self.assertEqual([loss.kind for loss in one.reasons()], ["one phase"])

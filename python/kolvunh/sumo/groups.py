@@ -22,6 +22,11 @@ WALKING = 1.2  # metres a second
 Walks = Mapping[int, int]  # the places of crossings in a signal's state, and for how many seconds they may be entered
 
 
+def place_of(lane: str) -> int:
+    """The place of a lane on its edge, from the right."""
+    return int(lane.rpartition("_")[2])
+
+
 class Relations(Protocol):
     """Who crosses whom at a junction, and who gives way where both are green."""
 
@@ -133,7 +138,7 @@ class Node:
         for move in self.moves:
             lanes[move.lane].append(move)
         groups: dict[tuple[str, frozenset[int], frozenset[int]], Group] = {}
-        for lane in sorted(lanes, key=lambda lane: (edge_of(lane), int(lane.rpartition("_")[2]))):
+        for lane in sorted(lanes, key=lambda lane: (edge_of(lane), place_of(lane))):
             greens = self._greens_of(lane, lanes[lane])
             if greens:
                 giving = frozenset(
@@ -183,9 +188,10 @@ class Node:
         return max(free, key=lambda phase: (free[phase], self.phases[phase].seconds), default=None)
 
     def _choose(self) -> tuple[list[int], set[int]]:
-        """The phases that are used, and of these the marked ones; gives each group its home."""
+        """The phases that are used, and of these the marked ones; gives each group its home, and makes groups one that are alike in them."""
         kept = list(range(len(self.phases)))
         while True:
+            self.groups = list(self._alike(set(kept)))
             homes = [self._home(group, kept) for group in self.groups]
             used = [phase for phase in kept if phase in homes]
             spare = [
@@ -193,20 +199,41 @@ class Node:
                 for phase in used
                 if all(group.greens & set(used) - {phase} for group, home in zip(self.groups, homes) if home == phase)
             ]
-            if len(used) <= MOST_PHASES or not spare:
+            if len(used) > MOST_PHASES and spare:
+                gone = min(spare, key=lambda phase: self.phases[phase].seconds)
+                words = f"the green {self.phases[gone].state} is left out: a node has {MOST_PHASES} phases, and all are green elsewhere"
+                self._lose("phase left out", words)
+                used.remove(gone)
+            elif len(used) == 1 < len(kept):
+                used = kept[:MOST_PHASES]
+                self._lose("phase without lanes", "in all but one phase nothing has its home: such a phase is kept all the same")
+                self._tell_left_out(set(kept) - set(used))
                 break
-            gone = min(spare, key=lambda phase: self.phases[phase].seconds)
-            words = f"the green {self.phases[gone].state} is left out: a node has {MOST_PHASES} phases, and all are green elsewhere"
-            self._lose("phase left out", words)
-            kept = [phase for phase in used if phase != gone]
-        if len(used) == 1 and len(kept) > 1:
-            used = kept[:MOST_PHASES]
-            self._lose("phase without lanes", "in all but one phase nothing has its home: such a phase is kept all the same")
-        for phase in set(kept) - set(used):
-            self._lose("phase left out", f"the green {self.phases[phase].state} is left out: nothing has its home in it")
+            elif used == kept:
+                break
+            self._tell_left_out({phase for phase in kept if phase not in homes})
+            kept = used
         for group, home in zip(self.groups, homes):
             group.home, group.shown = home or 0, frozenset(group.greens & set(used))
         return used, self._marked(used)
+
+    def _tell_left_out(self, phases: Iterable[int]) -> None:
+        for phase in phases:
+            self._lose("phase left out", f"the green {self.phases[phase].state} is left out: nothing has its home in it")
+
+    def _alike(self, kept: set[int]) -> Iterator[Group]:
+        """The groups, of which those of an edge that are green in the same phases of these, and give way in the same ones, are one."""
+        merged: dict[object, Group] = {}
+        for number, group in enumerate(self.groups):
+            greens, giving = group.greens & kept, group.giving & kept
+            key = (group.edge, greens, giving) if group.cross is None else number
+            if key in merged:
+                merged[key].lanes = sorted(merged[key].lanes + group.lanes, key=place_of)
+                merged[key].moves += group.moves
+            else:
+                merged[key] = group
+                group.greens, group.giving = frozenset(greens), frozenset(giving)
+        return iter(merged.values())
 
     def _marked(self, used: Sequence[int]) -> set[int]:
         """The phases whose every group is green in another one that is always shown: they are shown where they are wanted alone."""
