@@ -92,6 +92,16 @@ class NodeTest(unittest.TestCase):
         node = Node("a", lanes, [*states[:2], states[3], states[4]], Crossroads())
         self.assertEqual([group.lanes for group in node.groups if group.edge == "west"], [["west_0"], ["west_1"]])
 
+    def test_turns_that_nobody_takes(self) -> None:
+        """Who gives way only in such a turn, or to one, need not give way; lanes that differ in that alone are one link."""
+        states = [(30, "GgGr"), (3, "yyyr"), (30, "rrrG"), (3, "rrry")]
+        node = Node("a", moves("west_0", "west_1", "east_0", "south_0"), states, Crossroads((1, 2)))
+        self.assertEqual([group.lanes for group in node.groups], [["east_0"], ["south_0"], ["west_0"], ["west_1"]])
+        driven = node.driven({("west", "out0"), ("west", "out1"), ("south", "out3")})
+        self.assertEqual([group.lanes for group in driven.groups], [["south_0"], ["west_0", "west_1"]])
+        self.assertEqual([driven.clear_after(phase) for phase in (0, 1)], [0, 0])
+        self.assertIs(node.driven({("south", "out0")}), node)
+
     def test_no_nodes(self) -> None:
         one = Node("a", moves("west_0"), [(30, "G"), (3, "y")], Crossroads())
         self.assertEqual([loss.kind for loss in one.reasons()], ["one phase"])

@@ -142,7 +142,7 @@ def imported(options: Namespace) -> None:
         tell(lines_on(streets, nodes, reasons), {})
         raise Fault(f"{options.network}: no vehicle passes a signal that is a node")
     write_draft(draft, options.folder)
-    tell(lines_on(streets, nodes, reasons), {**demand.told, **draft.told})
+    tell(lines_on(streets, draft.nodes, reasons), {**demand.told, **draft.told})
     if options.report:
         programs = report_programs(nodes, options.folder, read_greens(options.report))
         (options.folder / "report.add.xml").write_text(programs, encoding="utf-8")
