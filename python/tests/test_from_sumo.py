@@ -102,6 +102,13 @@ class NodeTest(unittest.TestCase):
         self.assertEqual([driven.clear_after(phase) for phase in (0, 1)], [0, 0])
         self.assertIs(node.driven({("south", "out0")}), node)
 
+    def test_the_home_of_a_crossing(self) -> None:
+        """It is a phase in which vehicles are green too, where it is green in one."""
+        walk, other = (Movement(f":j_c{n}_0", "", 2 + n, "j", 2 + n, "walk") for n in (0, 1))
+        states = [(30, "rrGG"), (3, "rrrr"), (20, "GrrG"), (3, "yrrr"), (20, "rGrr"), (3, "ryrr")]
+        node = Node("a", moves("west_0", "south_0"), states, Crossroads(), {walk: 9.0, other: 9.0})
+        self.assertEqual([(group.edge, group.home) for group in node.groups if group.cross], [(":j_c0_0", 0), (":j_c1_0", 1)])
+
     def test_no_nodes(self) -> None:
         one = Node("a", moves("west_0"), [(30, "G"), (3, "y")], Crossroads())
         self.assertEqual([loss.kind for loss in one.reasons()], ["one phase"])

@@ -199,7 +199,8 @@ class Node:
     def _home(self, group: Group, phases: Iterable[int]) -> int | None:
         """The phase of these in which a group has its home."""
         free = {phase: sum(self.letter(phase, move) == "G" for move in group.moves) for phase in phases if phase in group.greens}
-        return max(free, key=lambda phase: (free[phase], self.phases[phase].seconds), default=None)
+        driven = {phase for phase in free if any(self.is_green(phase, move) for move in self._driven)}
+        return max(free, key=lambda phase: (free[phase], phase in driven, self.phases[phase].seconds), default=None)
 
     def _choose(self) -> tuple[list[int], set[int]]:
         """The phases that are used, and of these the marked ones; gives each group its home, and makes groups one that are alike in them."""
