@@ -36,10 +36,15 @@ class Signals:
         return "".join(state)
 
     def gives_way(self, move, other):
-        """Whether a movement gives way to another, by SUMO's network or by the file."""
+        """Whether a movement gives way to another, by SUMO's network or by the file; by the file alone where by SUMO's each does."""
+        by_file = self._yields(move, other) and self.junctions.cross(move, other)
+        each = self.junctions.gives_way(move, other) and self.junctions.gives_way(other, move)
+        return by_file or (self.junctions.gives_way(move, other) and not (each and self._yields(other, move)))
+
+    def _yields(self, move, other):
+        """Whether a link of a movement gives way by the file to one of another movement."""
         yields = {to for link in self.links_by(move) for to in self.layout.links.get(link, {}).get("yields", [])}
-        by_file = bool(yields & set(self.links_by(other))) and self.junctions.cross(move, other)
-        return self.junctions.gives_way(move, other) or by_file
+        return bool(yields & set(self.links_by(other)))
 
     def tls(self, node):
         """The name of a node's signal in SUMO."""
