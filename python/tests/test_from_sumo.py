@@ -10,6 +10,7 @@ import tempfile
 import unittest
 from collections.abc import Callable
 from pathlib import Path
+from types import SimpleNamespace
 from typing import Any
 from unittest import mock
 
@@ -17,10 +18,10 @@ from kolvunh.sumo.demand import Demand
 from kolvunh.sumo.drafts import Draft, names_in, write_draft
 from kolvunh.sumo.from_sumo import main, nodes_of, survey, survey_line
 from kolvunh.sumo.groups import Node
-from kolvunh.sumo.layout import read_places, read_tables
+from kolvunh.sumo.layout import Layout, read_places, read_tables
 from kolvunh.sumo.signals import Signals, state_at
 from kolvunh.sumo.streets import Movement, Streets
-from kolvunh.sumo.to_sumo import convert, write_routes
+from kolvunh.sumo.to_sumo import convert, ring_seconds, vehicle_row, write_routes
 
 
 class Crossroads:
@@ -134,6 +135,16 @@ class NodeTest(unittest.TestCase):
         self.assertEqual(shown, ["Ggr", "ygr", "rgr", "rGr", "ryr", "rrr", "rrG", "rry", "rrr"])
 
 
+class RingTest(unittest.TestCase):
+    def test_a_home_is_longer_than_a_green_that_goes_on(self) -> None:
+        """A green after which nothing ends is shown through its change too, so the home of a link is longer than both."""
+        phase = {"least": 5, "greatest": 50, "yellow": 3, "clear": 2}
+        for greens, seconds in (({"a": (0, 1), "b": (0,)}, [26, 20]), ({"a": (0, 1), "b": (1,)}, [21, 20])):
+            layout = SimpleNamespace(nodes={"n": {"phase": [phase, phase]}}, phase_of={"a": ("n", 0), "b": ("n", greens["b"][0])})
+            layout.greens_of = {link: {("n", number) for number in on} for link, on in greens.items()}
+            self.assertEqual(ring_seconds(SimpleNamespace(layout=layout, free_count=lambda *at: 1), "n"), seconds)
+
+
 @unittest.skipUnless(shutil.which("netgenerate") and shutil.which("netconvert"), "SUMO is not installed")
 class NetworkTest(unittest.TestCase):
     grid: Path
@@ -228,15 +239,24 @@ class NetworkTest(unittest.TestCase):
         self.assertEqual(also, {link["name"] for link in lefts})
         self.assertEqual((self.folder / "arrivals.csv").read_text().count(",1000\n"), 56)
 
-    def there_and_back(self, streets: Streets, demand: Demand) -> tuple[dict[str, Any], dict[str, Any], Signals]:
-        """The parts of an imported network, those of the one that SUMO's network of it gives, and the signals of that."""
+    def there_and_back(
+        self, streets: Streets, demand: Demand, routes: Callable[[Layout, Path, Path], None] | None = None
+    ) -> tuple[dict[str, Any], dict[str, Any], Signals]:
+        """The parts of an imported network, those of the one that SUMO's network of it gives, and the signals of that.
+
+        Who drives on the way back is drawn from the arrivals, or written by `routes`.
+        """
         write_draft(self.draft(demand, streets), self.folder)
         network, places = read_tables(self.folder / "net.toml"), read_places(self.folder / "places.csv")
         signals = convert(network, places, self.folder / "there")
-        write_routes(signals.layout, self.folder / "arrivals.csv", 1, self.folder / "there.rou.xml")
+        arrivals, there = self.folder / "arrivals.csv", self.folder / "there.rou.xml"
+        if routes:
+            routes(signals.layout, arrivals, there)
+        else:
+            write_routes(signals.layout, arrivals, 1, there)
         back = Streets(self.folder / "there/net.net.xml")
         demand = Demand(back, 3000)
-        demand.read_routes(self.folder / "there.rou.xml")
+        demand.read_routes(there)
         write_draft(self.draft(demand, back), self.folder / "back")
         return parts(network, lambda name: name), parts_back(signals, self.folder / "back"), signals
 
@@ -277,6 +297,18 @@ class NetworkTest(unittest.TestCase):
         self.assertEqual(first, back)
         came = [(self.folder / name).read_text(encoding="utf-8").count("\n") for name in ("arrivals.csv", "back/arrivals.csv")]
         self.assertEqual(*came)
+
+    def test_there_and_back_at_odd_angles(self) -> None:
+        """Random networks: lanes that differ where nobody drives, a ring with a green that goes on, and crossings with who meets them."""
+        words = "--rand --rand.iterations 14 --turn-lanes 1 --turn-lanes.length 60 --tls.guess --tls.guess.threshold 20 --no-turnarounds"
+        for seed, more in (("3", ""), ("2", "--crossings.guess --sidewalks.guess"), ("6", "--crossings.guess --sidewalks.guess")):
+            net = self.folder / f"random{seed}.net.xml"
+            subprocess.run(["netgenerate", *words.split(), "--seed", seed, *more.split(), "-o", net], check=True, capture_output=True)
+            streets = Streets(net)
+            demand = Demand(streets, 3000)
+            demand.read_routes(self.file(all_ways(streets)))
+            first, back, _ = self.there_and_back(streets, demand, every_turn)
+            self.assertEqual(first, back, seed)
 
     def command(self, *words: str | Path) -> tuple[object, list[str]]:
         """The status and the lines on standard error of the command."""
@@ -345,6 +377,26 @@ def all_ways(streets: Streets) -> str:
     edges = [edge for edge in streets.edges if streets.edges[edge].lanes[0].length > 90]
     ways = [way for start in edges for end in edges if len(way := streets.route(start, end) or []) > 1]
     return "".join(f'<vehicle id="{n}" depart="{n}"><route edges="{" ".join(way)}"/></vehicle>' for n, way in enumerate(ways))
+
+
+def every_turn(layout: Layout, arrivals: Path, to: Path) -> None:
+    """Writes a file of routes with a vehicle for each turn of a network that is laid out; arrivals are not asked."""
+    before = {name: [name] for name, link in layout.links.items() if "from" not in link}
+    for name in (found := list(before)):
+        for turn in layout.links[name].get("turn", []):
+            if turn["exit"] not in before:
+                before[turn["exit"]] = [*before[name], turn["exit"]]
+                found.append(turn["exit"])
+    after = {name: [name] for name, link in layout.links.items() if "to" not in link}
+    for exit in (found := list(after)):
+        for name, link in layout.links.items():
+            if name not in after and any(turn["exit"] == exit and turn["share"] for turn in link.get("turn", [])):
+                after[name] = [name, *after[exit]]
+                found.append(name)
+    turns = [(name, turn["exit"]) for name, link in layout.links.items() for turn in link.get("turn", []) if turn["share"]]
+    ways = [[*before[name], *after[exit]] for name, exit in turns if name in before and exit in after]
+    rows = "".join(vehicle_row(layout, number, number, way) for number, way in enumerate(ways))
+    to.write_text(f"<routes>{rows}</routes>", encoding="utf-8")
 
 
 def parts_back(signals: Signals, folder: Path) -> dict[str, Any]:

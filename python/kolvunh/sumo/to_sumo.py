@@ -169,11 +169,14 @@ def ring_seconds(signals, node):
     """The seconds of each green of a ring: a link's home is longer than any other phase in which as much of it need not give way."""
     phases, layout = signals.layout.nodes[node]["phase"], signals.layout
     seconds = [min(max(phase["least"], RING_GREEN), phase["greatest"]) for phase in phases]
+    on = [{link for link, greens in layout.greens_of.items() if (node, number) in greens} for number in range(len(phases))]
+    # A green after which nothing ends is shown through its change too.
+    more = [(on[n] <= on[(n + 1) % len(on)]) * (phase["yellow"] + phase["clear"]) for n, phase in enumerate(phases)]
     for _ in phases:
         for link, (of, home) in layout.phase_of.items():
             if of == node:
                 free = {number: signals.free_count(link, node, number) for at, number in layout.greens_of[link] if at == node}
-                others = [seconds[number] for number in free if number != home and free[number] >= free[home]]
+                others = [seconds[number] + more[number] for number in free if number != home and free[number] >= free[home]]
                 seconds[home] = max(seconds[home], min(phases[home]["greatest"], 1 + max(others, default=0)))
     return seconds
 
