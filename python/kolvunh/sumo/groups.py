@@ -1,7 +1,7 @@
 """A signal as a node of a network file: its greens as phases, and its lanes as groups with one home each. Nothing here is proved.
 
 A group is the lanes of an edge that are green in the same phases and give way in the same ones, or a crossing of people on foot. Its
-home is the phase in which most of its movements need not give way; of several such the longest.
+home is the phase in which most of its movements need not give way; of several such one in which vehicles are green, and the longest.
 """
 
 import math
