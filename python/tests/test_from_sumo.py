@@ -103,6 +103,15 @@ class NodeTest(unittest.TestCase):
         self.assertEqual([driven.clear_after(phase) for phase in (0, 1)], [0, 0])
         self.assertIs(node.driven({("south", "out0")}), node)
 
+    def test_a_signal_of_which_only_the_last_phase_is_driven(self) -> None:
+        """Its phase stays, with three others."""
+        states = [(20, "".join("G" if at == place else "r" for at in range(5))) for place in range(5)]
+        states[3] = (20, "rrGGr")
+        lanes = moves("e0_0", "e1_0", "e2_0", "e2_1", "e4_0")
+        lanes[3] = lanes[3]._replace(lane="e2_0")
+        node = Node("a", lanes, states, Crossroads()).driven({("e4", "out4")})
+        self.assertEqual((node.used, node.groups[-1].home, node.reasons()), ([0, 1, 2, 4], 4, []))
+
     def test_the_home_of_a_crossing(self) -> None:
         """It is a phase in which vehicles are green too, where it is green in one."""
         walk, other = (Movement(f":j_c{n}_0", "", 2 + n, "j", 2 + n, "walk") for n in (0, 1))

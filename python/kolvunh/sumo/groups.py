@@ -203,7 +203,7 @@ class Node:
         return max(free, key=lambda phase: (free[phase], phase in driven, self.phases[phase].seconds), default=None)
 
     def _choose(self) -> tuple[list[int], set[int]]:
-        """The phases that are used, and of these the marked ones; gives each group its home, and makes groups one that are alike in them."""
+        """The phases that are used, and of these the marked ones; gives each group its home, and has one group of those alike in them."""
         kept = list(range(len(self.phases)))
         while True:
             self.groups = list(self._alike(set(kept)))
@@ -220,7 +220,7 @@ class Node:
                 self._lose("phase left out", words)
                 used.remove(gone)
             elif len(used) == 1 < len(kept):
-                used = kept[:MOST_PHASES]
+                used = sorted([*used, *(phase for phase in kept if phase not in used)][:MOST_PHASES])
                 self._lose("phase without lanes", "in all but one phase nothing has its home: such a phase is kept all the same")
                 self._tell_left_out(set(kept) - set(used))
                 break
