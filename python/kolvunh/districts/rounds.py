@@ -17,7 +17,7 @@ Parcel = list[tuple[str, list[int]]]  # of each link to a neighbour: its board, 
 
 
 class Decider(Protocol):
-    """Who is asked once in each round, as `Serving`."""
+    """Who is asked in each round, as `Serving`."""
 
     def turns(self, state: str, names: Sequence[str]) -> list[str]:
         """The decision of each of these nodes in a state, by its own turn."""
@@ -48,6 +48,7 @@ class District:
                 self._out.setdefault(cut.rank_of(link), []).append(link.name)
             elif cut.rank_of(link) == rank:
                 self._in.setdefault(cut.source_of(link), []).append(link.name)
+        self._exits = {name: [link.name for link in network.links_from(name)] for name in world.nodes}
         self._told: dict[str, str] = {}  # the boards of the links that lead out
 
     @property
@@ -61,22 +62,17 @@ class District:
         return sorted(self._out)
 
     def decide(self, now: int, decider: Decider) -> None:
-        """Asks for the turn of each node in the round that begins now."""
-        names = list(self.world.nodes)
-        if names:
-            state = "\n".join([HEADER, f"now,,{now},,", *self._rows(now), *self.boards.values(), ""])
-            for name, answer in zip(names, decider.turns(state, names), strict=True):
-                self._take(self.world.nodes[name], answer)
+        """Asks for the turn of each node in the round that begins now. All are asked before any is followed."""
+        answers = [decider.turns(self._state_of(name, now), [name])[0] for name in self.world.nodes]
+        for node, answer in zip(self.world.nodes.values(), answers, strict=True):
+            self._take(node, answer)
 
-    def _rows(self, now: int) -> Iterator[str]:
-        """What the nodes show and sense."""
-        for name, node in self.world.nodes.items():
-            for phase, begin, end in node.line:
-                yield f"green,{name},{phase},{begin},{end}"
-        for road in self.world.entries:
-            if road.queue:
-                yield f"queue,{road.link.name},{road.queue},{road.stood},"
-            yield from _coming_rows(road, now)
+    def _state_of(self, name: str, now: int) -> str:
+        """What a node needs of the state: what it shows and senses, the boards that it hears, and the versions of those that it tells."""
+        node = self.world.nodes[name]
+        heard = [self.boards[road.link.name] for road in node.roads if road.link.name in self.boards]
+        versions = [self.boards[link].partition("\n")[0] for link in self._exits[name] if link in self.boards]
+        return "\n".join([HEADER, f"now,,{now},,", *_node_rows(name, node, now), *heard, *versions, ""])
 
     def _take(self, node: Crossroads, answer: str) -> None:
         """Keeps what a node has decided. Of what it tells another district its own needs the version alone."""
@@ -113,6 +109,16 @@ class District:
         """What it tells when the run is over."""
         links = {name: (road.entered, road.left, road.delay) for name, road in self.world.roads.items()}
         return Part(links, self.world.arrived, self._greens, spent)
+
+
+def _node_rows(name: str, node: Crossroads, now: int) -> Iterator[str]:
+    """What a node shows and senses."""
+    for phase, begin, end in node.line:
+        yield f"green,{name},{phase},{begin},{end}"
+    for road in node.roads:
+        if road.queue:
+            yield f"queue,{road.link.name},{road.queue},{road.stood},"
+        yield from _coming_rows(road, now)
 
 
 def _coming_rows(road: Road, now: int) -> Iterator[str]:
