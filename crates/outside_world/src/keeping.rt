@@ -11,6 +11,7 @@ pub(crate) fn keep(line: &mut Vec<u8>, piece: &[u8], most: usize, so_far: LineRe
     ensures kept { (came : List ℕ) (room : ℕ) → room ≤ vec_capacity line.old
         → IsKept so_far came (min room most) line.old.items
         → IsKept result (came ++ piece.now) (min room most) line.new.items }
+    ensures most { length line.old.items ≤ most → length line.new.items ≤ most }
     ensures capacity { vec_capacity line.old ≤ vec_capacity line.new }
 {
     match so_far {
@@ -23,6 +24,7 @@ pub(crate) fn keep(line: &mut Vec<u8>, piece: &[u8], most: usize, so_far: LineRe
 fn keep_more(line: &mut Vec<u8>, piece: &[u8], most: usize) -> LineRead
     ensures kept { (room : ℕ) → room ≤ vec_capacity line.old
         → IsKept result (line.old.items ++ piece.now) (min room most) line.new.items }
+    ensures most { length line.old.items ≤ most → length line.new.items ≤ most }
     ensures some { result ≢ LineRead.End }
     ensures capacity { vec_capacity line.old ≤ vec_capacity line.new }
 {

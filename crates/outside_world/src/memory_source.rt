@@ -62,6 +62,7 @@ impl Source for MemorySource {
 
         ensures line { IfOk result (λ read.
             IsRead read (source_seen self.old) (source_seen self.new) (vec_capacity line.old) most line.new.items) }
+        ensures most { OnOk result (length line.new.items ≤ most) }
         ensures breaks { OnErr result (self.new.faults ≡ one_more self.old.faults) }
         ensures capacity { vec_capacity line.old ≤ vec_capacity line.new }
     {

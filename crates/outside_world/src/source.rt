@@ -1,5 +1,5 @@
 //! A source: lines that come one after another, and a count of faults.
-ghost use Rattle.std.specs.Prelude.{◌≡◌, ◌≤◌, IfOk, OnErr, vec_capacity};
+ghost use Rattle.std.specs.Prelude.{◌≡◌, ◌≤◌, IfOk, OnErr, OnOk, length, vec_capacity};
 ghost use Rattle.outside_world.specs.Sink.{one_more};
 ghost use Rattle.outside_world.specs.Source.{SourceState, IsRead};
 
@@ -29,6 +29,7 @@ pub trait Source {
     fn take_line(&mut self, line: &mut Vec<u8>, most: usize) -> Result<LineRead, Failed>
         ensures line { IfOk result (λ read.
             IsRead read (state self.old) (state self.new) (vec_capacity line.old) most line.new.items) }
+        ensures most { OnOk result (length line.new.items ≤ most) }
         ensures breaks { OnErr result ((state self.new).faults ≡ one_more (state self.old).faults) }
         ensures capacity { vec_capacity line.old ≤ vec_capacity line.new };
 }

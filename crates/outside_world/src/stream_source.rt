@@ -1,5 +1,5 @@
 //! The source that reads a stream.
-ghost use Rattle.std.specs.Prelude.{◌≡◌, ◌≤◌, ◌<◌, ◌-◌, ℕ, List, None, All, ◌≢◌, ◌⊎◌, length, take, is_ok, if◌then◌else◌, IfOk, OnErr, vec_capacity};
+ghost use Rattle.std.specs.Prelude.{◌≡◌, ◌≤◌, ◌<◌, ◌-◌, ℕ, List, None, All, ◌≢◌, ◌⊎◌, length, take, is_ok, if◌then◌else◌, IfOk, OnErr, OnOk, vec_capacity};
 ghost use Rattle.outside_world.specs.Sink.{one_more};
 ghost use Rattle.outside_world.specs.Source.{IsRead, SourceState};
 
@@ -71,6 +71,7 @@ impl<R: Read + Drop> Source for StreamSource<R> {
     fn take_line(&mut self, line: &mut Vec<u8>, most: usize) -> Result<LineRead, Failed>
         ensures line { IfOk result (λ read. IsRead read (record { left = None; faults = self.old })
             (record { left = None; faults = self.new }) (vec_capacity line.old) most line.new.items) }
+        ensures most { OnOk result (length line.new.items ≤ most) }
         ensures breaks { OnErr result (self.new ≡ one_more self.old) }
         ensures capacity { vec_capacity line.old ≤ vec_capacity line.new }
     {
@@ -91,7 +92,7 @@ impl<R: Read + Drop> Source for StreamSource<R> {
                 return Ok(read);
             }
         }
-        // What came is a front of a line, whose turns each took a byte.
+        // What came is a front of a line: each pass of the loop took a byte.
         Ok(read)
     }
 }

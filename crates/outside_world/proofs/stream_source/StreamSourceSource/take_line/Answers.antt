@@ -30,6 +30,7 @@ loop-preserved g c =
           (λ came so. c.keep-read.ensures.kept came (vec_capacity c.args.line.now) c.loop.invariant.capacity so) c.if-last-eq10.false;
       same = c.self.view_is ∙ c.in_ok-fill.ensures.faults ∙ c.loop.invariant.same;
       capacity = omega (arith, c.loop.invariant.capacity, c.keep-read.ensures.capacity);
+      most = c.keep-read.ensures.most c.loop.invariant.most;
     }
 
 pub returns-clause-line : goal.returns-clause-line
