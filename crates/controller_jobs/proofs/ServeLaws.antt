@@ -1,14 +1,13 @@
 -- How requests are answered one after another, and how that ends.
-use Rattle.std.proofs.Common.{◌≡◌, ◌≢◌, ℕ, ◌+◌, ◌-◌, ◌^◌, ◌<◌, ◌≤◌, min, true, false, List, [], ◌∷◌, ◌++◌, Option, Some, None, Result, Ok, Err, length, take, refl, sym, ap, ◌∙◌, subst, arith, append-nil, append_assoc, length-append, inl, inr, codes}
-use Rattle.std.specs.Prelude.{All, ◌⊎◌, IsSome}
+use Rattle.std.proofs.Common.{◌≡◌, ℕ, ◌+◌, ◌-◌, ◌^◌, List, [], ◌∷◌, ◌++◌, Option, Some, None, Result, Ok, Err, length, take, refl, sym, ap, ◌∙◌, subst, arith, append-nil, append_assoc, length-append, inl, inr}
+use Rattle.std.specs.Prelude.{◌⊎◌, IfErr, IsSome}
 use Rattle.std.specs.Io.KnownBytes.{IsAtEnd, append_known}
-use Rattle.std.specs.List.{AllZip, concat, flat_map}
+use Rattle.std.specs.List.{concat, flat_map}
 use Rattle.std.proofs.lemmas.Grind.{flat_map-append}
 use Rattle.std.proofs.lemmas.List.{take-take}
 use Rattle.std.proofs.lemmas.List.Elements.{All-append, All-cons, All-nil}
 use Rattle.std.proofs.lemmas.List.Folds.{concat-append}
 use Rattle.std.proofs.lemmas.Slice.Zip.{all_zipped_more}
-use Rattle.std.proofs.Math.Seq.{take-append-add}
 use Rattle.outside_world.specs.Shelf.{Files, GainsLast, ShelfState}
 use Rattle.outside_world.specs.Sink.{Breaks, Gains, Rose, SinkState, one_more}
 use Rattle.outside_world.specs.Source.{Comes, SourceState}
@@ -26,10 +25,10 @@ use Rattle.commands.specs.declared.refusals.Refusal.{Refusal}
 use Rattle.commands.specs.declared.refusals.Refusal.TheVariants as refusal
 use Rattle.commands.specs.declared.refusals.TextPlace.TheVariants.{First, Second, Third}
 use Rattle.commands.specs.declared.status.Status.{Status}
-use Rattle.commands.specs.declared.status.Status.TheVariants.{Done, Rejected, Usage, BadInput, ReadFault, WriteFault, NoMemory}
-use Rattle.controller_jobs.specs.Gathering.{EndsServing, IsAnswered, IsAnsweredAll, IsGathered, IsHeard, IsLineTaken, IsOf, IsPut, IsServing, IsUntaken, request_of}
-use Rattle.controller_jobs.specs.Requests.{AllCome, AreRequests, EndsRequest, IsRequest, Request, lines_of}
-use Rattle.controller_jobs.specs.Serving.{AreAnswered, IsAnswer, IsBrokenOff, IsCutOff, IsServed, OfNetwork, Serves, answer_to_others}
+use Rattle.commands.specs.declared.status.Status.TheVariants.{Done, BadInput, ReadFault, WriteFault, NoMemory}
+use Rattle.controller_jobs.specs.Gathering.{EndsServing, IsAnswered, IsAnsweredAll, IsGathered, IsHeard, IsOf, IsPut, IsServing, IsUntaken, request_of}
+use Rattle.controller_jobs.specs.Requests.{AllCome, EndsRequest, IsRequest, Request, lines_of}
+use Rattle.controller_jobs.specs.Serving.{AreAnswered, HasEnded, IsAnswer, IsBrokenOff, IsCutOff, IsServed, Serves, answer_to_others}
 use Rattle.controller_jobs.specs.declared.requests.Gathered.{Gathered}
 
 -- what is read of a line has its front
@@ -66,14 +65,6 @@ both (Some xs) a b = ap Some (append_assoc xs a b)
 gains-more : (out mid out' : SinkState) (a b : List ℕ) → Gains out mid a → Gains mid out' b → Gains out out' (a ++ b)
 gains-more out mid out' a b first second =
     second ∙ ap (λ (s : SinkState). record { written = append_known s.written b; faults = s.faults }) first ∙ ap (λ w. record { written = w; faults = out.faults }) (both out.written a b)
-
-breaks-more : (out mid out' : SinkState) (a b : List ℕ) → Gains out mid a → Breaks mid out' b → Breaks out out' (a ++ b)
-breaks-more out mid out' a b first second = record {
-  faults = second.faults ∙ ap (λ (s : SinkState). one_more s.faults) first;
-  count = length a + second.count;
-  front = second.front ∙ ap (λ (s : SinkState). append_known s.written (take second.count b)) first ∙ both out.written a (take second.count b)
-      ∙ ap (append_known out.written) (sym (take-append-add a b second.count));
-}
 
 -- one line more came
 come-more : (old : SourceState) (lines : List (List ℕ)) (now next : SourceState) (line : List ℕ) → AllCome old lines now → Comes now next line → AllCome old (lines ++ line ∷ []) next
@@ -177,31 +168,46 @@ module _ (net : Net) (from : SourceState) (out : SinkState) where
     serving-broken refusal.Unwritten (answer, answered, breaks) = record {
       lines = so_far.lines ++ line ∷ [];
       others = [];
-      answers = so_far.answers ++ answer ∷ [];
-      answered = answered-more answer answered;
-      written = subst (Breaks out out') (joined answer ∙ sym (append-nil (concat (so_far.answers ++ answer ∷ [])))) (breaks-more out mid out' (concat so_far.answers) answer so_far.written breaks);
+      answers = so_far.answers;
+      last = answer;
+      is = answered-more answer answered;
+      middle = mid;
+      before = so_far.written;
+      breaks = breaks;
     }
     serving-broken _ heard = absurd heard
 
   module _ (now : SourceState) (mid : SinkState) (g : Gathered) (count : ℕ) (so_far : IsServing net from now out mid g count) where
+    ends-all : IsAtEnd now.left ⊎ (count ≡ 2 ^ 64 - 1) → HasEnded now so_far.lines
+    ends-all ended = elim ended [ inl end ↦ inl end | inr all ↦ inr (so_far.counted ∙ all) ]
+
+    -- the answer to the lines after the last request could not be written whole
+    others-broken : (out' : SinkState) (others : List (List ℕ)) → so_far.others ≡ others → IsGathered others g → ¬ IsGathered [] g → HasEnded now so_far.lines → Breaks mid out' (answer_to_others others) → IsBrokenOff net from now out out'
+    others-broken out' [] same gathered some ended breaks = absurd (some gathered)
+    others-broken out' (line ∷ rest) same gathered some ended breaks = record {
+      lines = so_far.lines;
+      others = line ∷ rest;
+      answers = so_far.answers;
+      last = answer_to_others (line ∷ rest);
+      is = (subst (λ (others : List (List ℕ)). AreAnswered net from now so_far.lines others so_far.answers) same so_far.answered, refl, ended);
+      middle = mid;
+      before = so_far.written;
+      breaks = breaks;
+    }
+
     -- the source has ended
-    pub serving-ends : (out' : SinkState) (result : Result (Unit {0}) Refusal) → IsAtEnd now.left ⊎ (count ≡ 2 ^ 64 - 1) → IsPut (answer_to_others so_far.others) mid out' result → IsAnsweredAll net from now out out' result
-    serving-ends out' (Ok done) ended put = record {
+    pub serving-ends : (out' : SinkState) (result : Result (Unit {0}) Refusal) → IsAtEnd now.left ⊎ (count ≡ 2 ^ 64 - 1) → IsPut (answer_to_others so_far.others) mid out' result → IfErr result (λ why. ¬ IsGathered [] g)
+        → IsAnsweredAll net from now out out' result
+    serving-ends out' (Ok done) ended put some = record {
       lines = so_far.lines;
       others = so_far.others;
       answers = so_far.answers;
       answered = so_far.answered;
-      ended = elim ended [ inl end ↦ inl end | inr all ↦ inr (so_far.counted ∙ all) ];
+      ended = ends-all ended;
       written = gains-more out mid out' (concat so_far.answers) (answer_to_others so_far.others) so_far.written put;
     }
-    serving-ends out' (Err refusal.Unwritten) ended put = record {
-      lines = so_far.lines;
-      others = so_far.others;
-      answers = so_far.answers;
-      answered = so_far.answered;
-      written = breaks-more out mid out' (concat so_far.answers) (answer_to_others so_far.others) so_far.written put;
-    }
-    serving-ends out' (Err _) ended put = absurd put
+    serving-ends out' (Err refusal.Unwritten) ended put some = others-broken out' so_far.others refl so_far.gathered some (ends-all ended) put
+    serving-ends out' (Err _) ended put some = absurd put
 
     -- the source failed
     pub serving-cut : (to : SourceState) (why : Refusal) → IsUntaken now to why → IsAnsweredAll net from to out mid (Err why)
@@ -294,7 +300,7 @@ module _ (net : List ℕ) (old new : Outside) (from to : SourceState) (status : 
       out = λ d. elim d [ inl a ↦ absurd (cc) | inr a ↦ absurd (cc) ];
       err = λ d. absurd (cc);
       refused = λ text told none s. absurd (never-refused network is text told none);
-      complete = λ text told n reads s a b. absurd (b (risen old.out.faults new.out.faults broken.written.faults));
+      complete = λ text told n reads s a b. absurd (b (risen old.out.faults new.out.faults (broken.breaks.faults ∙ ap (λ (s : SinkState). one_more s.faults) broken.before)));
     }
 
   -- memory ran out before a line came

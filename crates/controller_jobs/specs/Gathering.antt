@@ -21,7 +21,6 @@ use Rattle.commands.specs.declared.status.Status.{Status}
 use Rattle.commands.specs.declared.status.Status.TheVariants.{Done, NoMemory, ReadFault, WriteFault}
 use Rattle.controller_jobs.specs.Requests.{EndsRequest, Request}
 use Rattle.controller_jobs.specs.Serving.{AreAnswered, IsAnswer, IsBrokenOff, IsCutOff, IsNodeDecided, IsServed}
-use Rattle.controller_jobs.specs.Requests as requests
 use Rattle.controller_jobs.specs.declared.requests.Gathered.{Gathered}
 use Rattle.controller_jobs.specs.declared.requests.Lost.{Lost}
 use Rattle.controller_jobs.specs.declared.requests.Lost.TheVariants as lost

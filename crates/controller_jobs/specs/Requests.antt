@@ -15,17 +15,17 @@ AllCome old (line ∷ rest) new = (next : SourceState) × Comes old next line ×
 abbrev pub EndsRequest : List ℕ → Type 0
 EndsRequest line = (take 4 line ≡ codes "end\n") ⊎ (take 4 line ≡ codes "end,") ⊎ (take 4 line ≡ codes "end")
 
--- the names in the line that ends a request, with commas between them, where it has any: what stands after `end,` but the line feed
-abbrev pub named_by : List ℕ → Option (List ℕ)
-named_by line = if bytes_eq (take 4 line) (codes "end,") then Some (strip_last 10 (drop 4 line)) else None
+-- the names in the line that ends a request, with commas between them, where it has any: what is after `end,`, but for the line feed
+abbrev pub names_after_end : List ℕ → Option (List ℕ)
+names_after_end line = if bytes_eq (take 4 line) (codes "end,") then Some (strip_last 10 (drop 4 line)) else None
 
--- what stands between commas
+-- what is between commas
 abbrev pub names_in : List ℕ → List (List ℕ)
 names_in named = slice_split (λ byte. byte == 44) named
 
 -- whom the line that ends a request asks: the nodes with the names that it has, or else all
 abbrev pub asked_by : List ℕ → Option (List (List ℕ))
-asked_by line = option_map names_in (named_by line)
+asked_by line = option_map names_in (names_after_end line)
 
 -- a request: the lines of a state, and the line that ends it
 pub record Request : Type 0 where
@@ -37,11 +37,11 @@ pub record IsRequest (request : Request) : Type 0 where
   pub lines : All (λ line. ¬ EndsRequest line) request.lines
   pub last : EndsRequest request.last
 
--- the text of its state
+-- the text of a request's state
 abbrev pub text_of : Request → List ℕ
 text_of request = concat request.lines
 
--- all its lines
+-- all lines of a request
 abbrev pub lines_of : Request → List (List ℕ)
 lines_of request = request.lines ++ request.last ∷ []
 

@@ -24,19 +24,19 @@ use Rattle.commands.specs.declared.status.Status.TheVariants.{Done, Rejected, Us
 use Rattle.controller_jobs.specs.Requests as requests
 use Rattle.controller_jobs.specs.Requests.{AllCome, AreRequests, Request, asked_by}
 
--- what `decide` writes of a state's text, of which it asks all nodes
+-- what `decide` writes of a state's text of which it asks all nodes
 pub record IsDecided (net : Net) (text bytes : List ℕ) : Type 0 where
   pub state : RoundState
   pub read : IsReadAs (StateText net) text state
   pub is : IsDecisionText net state bytes
 
--- and of which it asks the node with this name
+-- what `decide` writes of a state's text of which it asks the node with this name
 pub record IsNodeDecided (net : Net) (text name bytes : List ℕ) : Type 0 where
   pub state : RoundState
   pub read : IsReadAs (node_state_of name net) text state
   pub is : IsNodeDecisionText net state name bytes
 
--- what it writes of all nodes, or of those with these names, one after another
+-- what `decide` writes of all nodes, or of those with these names, one after another
 abbrev pub IsDecidedFor : Net → List ℕ → Option (List (List ℕ)) → List ℕ → Type 0
 IsDecidedFor net text None bytes = IsDecided net text bytes
 IsDecidedFor net text (Some names) bytes = (parts : List (List ℕ)) × AllZip (IsNodeDecided net text) names parts × (bytes ≡ concat parts)
@@ -50,13 +50,13 @@ abbrev pub IsRefused : Kind → List ℕ → Refusal → Type 0
 IsRefused kind text (refusal.Bad Second why) = IsUnread kind text why
 IsRefused kind text _ = ⊥
 
--- why it refuses one of which it asks the node with this name: the text, or the name
+-- why `decide` refuses a state's text of which it asks the node with this name: the text, or the name
 abbrev pub IsNodeRefused : Net → List ℕ → List ℕ → Refusal → Type 0
 IsNodeRefused net text name (refusal.Bad Second why) = IsUnread (node_state_of name net) text why
 IsNodeRefused net text name (refusal.Missing Node) = (state : RoundState) × IsReadAs (node_state_of name net) text state × (number_of net.node_names name ≡ None)
 IsNodeRefused net text name _ = ⊥
 
--- the first of these names of which it refuses the text
+-- the first of these names of which `decide` refuses the text
 pub record IsFirstRefused (net : Net) (text : List ℕ) (names : List (List ℕ)) (why : Refusal) : Type 0 where
   pub before : List (List ℕ)
   pub name : List ℕ
@@ -65,7 +65,7 @@ pub record IsFirstRefused (net : Net) (text : List ℕ) (names : List (List ℕ)
   pub decided : All (λ other. (bytes : List ℕ) × IsNodeDecided net text other bytes) before
   pub refused : IsNodeRefused net text name why
 
--- why it refuses the text of a request: of all nodes, or of the first of the names that it refuses
+-- why `decide` refuses the text of a request: of all nodes, or of the first of the names that it refuses
 abbrev pub IsRefusedFor : Net → List ℕ → Option (List (List ℕ)) → Refusal → Type 0
 IsRefusedFor net text None why = IsRefused (StateText net) text why
 IsRefusedFor net text (Some names) why = IsFirstRefused net text names why
@@ -101,13 +101,17 @@ pub record AreAnswered (net : Net) (from to : SourceState) (lines others answers
   pub are : AreRequests lines requests others
   pub each : AllZip (IsAnswer net) requests answers
 
--- all lines came, and all requests were answered; a source that gives 2^64 - 1 lines counts as ended
+-- the source has ended after these lines; one that gives 2^64 - 1 lines counts as ended
+abbrev pub HasEnded : SourceState → List (List ℕ) → Type 0
+HasEnded to lines = IsAtEnd to.left ⊎ (length lines ≡ 2 ^ 64 - 1)
+
+-- all lines came, and all requests were answered
 pub record IsServed (net : Net) (from to : SourceState) (out out' : SinkState) : Type 0 where
   pub lines : List (List ℕ)
   pub others : List (List ℕ)
   pub answers : List (List ℕ)
   pub answered : AreAnswered net from to lines others answers
-  pub ended : IsAtEnd to.left ⊎ (length lines ≡ 2 ^ 64 - 1)
+  pub ended : HasEnded to lines
   pub written : Gains out out' (concat answers ++ answer_to_others others)
 
 -- after the lines that came the source failed, and all requests that came were answered
@@ -120,13 +124,23 @@ pub record IsCutOff (net : Net) (from to : SourceState) (out out' : SinkState) :
   pub failed : to.faults ≡ one_more before.faults
   pub written : Gains out out' (concat answers)
 
--- an answer could not be written whole: a front of all answers so far was, and nothing after it
+-- after these answers this is the last one: to the request that ends the lines; or to the lines after the last request, as the source
+-- has ended
+abbrev pub IsLast : Net → SourceState → SourceState → List (List ℕ) → List (List ℕ) → List (List ℕ) → List ℕ → Type 0
+IsLast net from to lines [] answers last = AreAnswered net from to lines [] (answers ++ last ∷ [])
+IsLast net from to lines (line ∷ rest) answers last =
+    AreAnswered net from to lines (line ∷ rest) answers × (last ≡ answer_to_others (line ∷ rest)) × HasEnded to lines
+
+-- the last answer could not be written whole: those before it were, then a front of it, and nothing after it
 pub record IsBrokenOff (net : Net) (from to : SourceState) (out out' : SinkState) : Type 0 where
   pub lines : List (List ℕ)
   pub others : List (List ℕ)
   pub answers : List (List ℕ)
-  pub answered : AreAnswered net from to lines others answers
-  pub written : Breaks out out' (concat answers ++ answer_to_others others)
+  pub last : List ℕ
+  pub is : IsLast net from to lines others answers last
+  pub middle : SinkState
+  pub before : Gains out middle (concat answers)
+  pub breaks : Breaks middle out' last
 
 -- the text in a file is read as this network, and as nothing else; and this is so of it
 abbrev pub OfNetwork : (net : List ℕ) → Outside → (Net → Type 0) → Type 0

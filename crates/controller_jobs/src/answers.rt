@@ -13,7 +13,7 @@ ghost use Rattle.road_net.specs.Network.{IsNetwork};
 ghost use Rattle.round_states.specs.States.{IsStateOf};
 
 use crate::decide::{decided_text, turn_text};
-use crate::requests::{Gathered, Lost, MOST_BYTES, named_by, split_name};
+use crate::requests::{Gathered, Lost, MOST_BYTES, names_after_end, split_name};
 use commands::{Named, Refusal, TextPlace};
 use outside_world::LineRead;
 use record_text::node_named;
@@ -41,7 +41,7 @@ pub(crate) fn answer(
 {
     match reply(alloc, net, gathered, line, read) {
         Ok(text) => with_end(text),
-        Err(why) => refused(alloc, why),
+        Err(why) => refusal_text(alloc, why),
     }
 }
 
@@ -55,19 +55,19 @@ fn with_end(text: Vec<u8>) -> Result<Vec<u8>, AllocError>
 }
 
 // The answer that is a refusal.
-fn refused(alloc: Global, why: Refusal) -> Result<Vec<u8>, AllocError>
+fn refusal_text(alloc: Global, why: Refusal) -> Result<Vec<u8>, AllocError>
     requires { HasLine why }
     ensures { IfOk result (λ answer. answer.items ≡ refused_answer why) }
 {
     match why {
-        Refusal::Bad { why, .. } => refused_state(alloc, why),
+        Refusal::Bad { why, .. } => state_refusal(alloc, why),
         Refusal::Missing { .. } => Vec::from_slice(alloc, b"refused,signal: bad node\nend\n"),
         _ => Vec::from_slice(alloc, b"refused,signal: no memory\nend\n"),
     }
 }
 
 // The answer that a state's text is refused.
-fn refused_state(alloc: Global, why: BadText) -> Result<Vec<u8>, AllocError>
+fn state_refusal(alloc: Global, why: BadText) -> Result<Vec<u8>, AllocError>
     ensures { IfOk result (λ answer. answer.items ≡ refused_answer (refusal.Bad place.Second why)) }
 {
     let mut answer = Vec::new(alloc);
@@ -112,7 +112,7 @@ fn reply_to(alloc: Global, net: &Network, text: &[u8], last: &[u8]) -> Result<Ve
     if text.len() > MOST_BYTES {
         return Err(TOO_LONG);
     }
-    match named_by(last) {
+    match names_after_end(last) {
         None => all_nodes(alloc, net, text),
         Some(names) => nodes(alloc, net, text, names),
     }

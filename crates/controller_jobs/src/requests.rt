@@ -4,7 +4,7 @@ ghost use Rattle.std.specs.Io.BufRead.{strip_last};
 ghost use Rattle.std.specs.List.{slice_split};
 ghost use Rattle.std.specs.Option.{option_map, option_map_or};
 ghost use Rattle.controller_jobs.specs.Gathering.{IsFirstComma, IsGathered, IsOf, IsTooMuch};
-ghost use Rattle.controller_jobs.specs.Requests.{EndsRequest, named_by, names_in};
+ghost use Rattle.controller_jobs.specs.Requests.{EndsRequest, names_after_end, names_in};
 ghost use Rattle.outside_world.specs.declared.source.LineRead.TheVariants as variant;
 
 use outside_world::LineRead;
@@ -102,8 +102,8 @@ pub(crate) fn ends_request(line: &[u8]) -> bool
 }
 
 /// The names in the line that ends a request, with commas between them; none where it asks all nodes.
-pub(crate) fn named_by(line: &[u8]) -> Option<&[u8]>
-    ensures { option_map (λ names. names.now) result ≡ named_by line.now }
+pub(crate) fn names_after_end(line: &[u8]) -> Option<&[u8]>
+    ensures { option_map (λ names. names.now) result ≡ names_after_end line.now }
 {
     let front = &line[..line.len().min(FRONT)];
     if front == b"end,".as_slice() {

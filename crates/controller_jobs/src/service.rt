@@ -1,5 +1,5 @@
 //! `serve NET`, which answers one request after another.
-ghost use Rattle.std.specs.Prelude.{◌≡◌, ◌≤◌, ℕ, List, IfOk, IfErr, vec_capacity};
+ghost use Rattle.std.specs.Prelude.{◌≡◌, ◌≤◌, ℕ, List, [], IfOk, IfErr, vec_capacity};
 ghost use Rattle.commands.specs.Outcome.{Outside};
 ghost use Rattle.controller_jobs.specs.Gathering.{EndsServing, IsAnsweredAll, IsGathered, IsHeard, IsLineTaken, IsOf, IsPut, IsUntaken, request_of};
 ghost use Rattle.controller_jobs.specs.Serving.{IsAnswer, Serves, answer_to_others};
@@ -148,8 +148,9 @@ fn put_answer<O: Sink>(
 
 // Answers what is left where the source has ended, if anything is.
 fn finish<O: Sink>(gathered: &Gathered, out: &mut O) -> Result<(), Refusal>
-    ensures { (lines : List (List ℕ)) → IsGathered lines gathered.now
+    ensures put { (lines : List (List ℕ)) → IsGathered lines gathered.now
         → IsPut (answer_to_others lines) (O.state out.old) (O.state out.new) result }
+    ensures others { IfErr result (λ why. ¬ IsGathered [] gathered.now) }
 {
     if gathered.has_begun {
         put(UNENDED, out)

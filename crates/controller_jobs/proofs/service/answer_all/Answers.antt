@@ -17,7 +17,7 @@ returns-in-Ok-None g c =
     let ended = rw c.in-Ok-None.field-0-is at c.in-Ok-None.ensures.ok in
     subst (λ (s : SourceState). IsAnsweredAll c.args.net.now (g.I.Source.state c.args.source.now) s (g.O.Sink.state c.args.out.now) (g.O.Sink.state c.finish.new.out) c.finish.result) (sym ended.0)
     (serving-ends c.args.net.now (g.I.Source.state c.args.source.now) (g.O.Sink.state c.args.out.now) (g.I.Source.state c.loop.source) (g.O.Sink.state c.loop.out) c.loop.gathered c.loop.counter c.loop.invariant.serving
-    (g.O.Sink.state c.finish.new.out) c.finish.result (inl ended.1) (c.finish.ensures c.loop.invariant.serving.others c.loop.invariant.serving.gathered))
+    (g.O.Sink.state c.finish.new.out) c.finish.result (inl ended.1) (c.finish.ensures.put c.loop.invariant.serving.others c.loop.invariant.serving.gathered) c.finish.ensures.others)
 
 pub returns-in-Err-hear : goal.returns-in-Err-hear
 returns-in-Err-hear g c =
@@ -39,4 +39,4 @@ loop-preserved g c =
 pub returns : goal.returns
 returns g c =
     serving-ends c.args.net.now (g.I.Source.state c.args.source.now) (g.O.Sink.state c.args.out.now) (g.I.Source.state c.loop.source) (g.O.Sink.state c.loop.out) c.loop.gathered c.loop.counter c.loop.invariant.serving
-    _ c.finish-2.result (inr (omega arith)) (c.finish-2.ensures c.loop.invariant.serving.others c.loop.invariant.serving.gathered)
+    _ c.finish-2.result (inr (omega arith)) (c.finish-2.ensures.put c.loop.invariant.serving.others c.loop.invariant.serving.gathered) c.finish-2.ensures.others
