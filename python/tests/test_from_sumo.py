@@ -20,7 +20,7 @@ from kolvunh.sumo.from_sumo import main, nodes_of, survey, survey_line
 from kolvunh.sumo.groups import Node
 from kolvunh.sumo.layout import Layout, read_places, read_tables
 from kolvunh.sumo.signals import Signals, state_at
-from kolvunh.sumo.streets import Movement, Streets
+from kolvunh.sumo.streets import Movement, Streets, edge_of
 from kolvunh.sumo.to_sumo import convert, ring_seconds, vehicle_row, write_routes
 
 
@@ -93,24 +93,11 @@ class NodeTest(unittest.TestCase):
         node = Node("a", lanes, [*states[:2], states[3], states[4]], Crossroads())
         self.assertEqual([group.lanes for group in node.groups if group.edge == "west"], [["west_0"], ["west_1"]])
 
-    def test_turns_that_nobody_takes(self) -> None:
-        """Who gives way only in such a turn, or to one, need not give way; lanes that differ in that alone are one link."""
-        states = [(30, "GgGr"), (3, "yyyr"), (30, "rrrG"), (3, "rrry")]
-        node = Node("a", moves("west_0", "west_1", "east_0", "south_0"), states, Crossroads((1, 2)))
-        self.assertEqual([group.lanes for group in node.groups], [["east_0"], ["south_0"], ["west_0"], ["west_1"]])
-        driven = node.driven({("west", "out0"), ("west", "out1"), ("south", "out3")})
-        self.assertEqual([group.lanes for group in driven.groups], [["south_0"], ["west_0", "west_1"]])
-        self.assertEqual([driven.clear_after(phase) for phase in (0, 1)], [0, 0])
-        self.assertIs(node.driven({("south", "out0")}), node)
-
-    def test_a_signal_of_which_only_the_last_phase_is_driven(self) -> None:
-        """Its phase stays, with three others."""
-        states = [(20, "".join("G" if at == place else "r" for at in range(5))) for place in range(5)]
-        states[3] = (20, "rrGGr")
-        lanes = moves("e0_0", "e1_0", "e2_0", "e2_1", "e4_0")
-        lanes[3] = lanes[3]._replace(lane="e2_0")
-        node = Node("a", lanes, states, Crossroads()).driven({("e4", "out4")})
-        self.assertEqual((node.used, node.groups[-1].home, node.reasons()), ([0, 1, 2, 4], 4, []))
+    def test_a_signal_of_which_only_the_last_phase_is_a_home(self) -> None:
+        """It stays, with three others."""
+        states = [(20, state) for state in ("grr", "rgr", "rrg", "ggr", "GGG")]
+        node = Node("a", moves("e0_0", "e1_0", "e2_0"), states, Crossroads())
+        self.assertEqual((node.used, [group.home for group in node.groups], node.reasons()), ([0, 1, 2, 4], [4, 4, 4], []))
 
     def test_the_home_of_a_crossing(self) -> None:
         """It is a phase in which vehicles are green too, where it is green in one."""
@@ -308,14 +295,14 @@ class NetworkTest(unittest.TestCase):
         self.assertEqual(*came)
 
     def test_there_and_back_at_odd_angles(self) -> None:
-        """Random networks: lanes that differ where nobody drives, a ring with a green that goes on, and crossings with who meets them."""
+        """Random networks with a vehicle for each turn: a ring with a green that goes on, and crossings with who meets them."""
         words = "--rand --rand.iterations 14 --turn-lanes 1 --turn-lanes.length 60 --tls.guess --tls.guess.threshold 20 --no-turnarounds"
         for seed, more in (("3", ""), ("2", "--crossings.guess --sidewalks.guess"), ("6", "--crossings.guess --sidewalks.guess")):
             net = self.folder / f"random{seed}.net.xml"
             subprocess.run(["netgenerate", *words.split(), "--seed", seed, *more.split(), "-o", net], check=True, capture_output=True)
             streets = Streets(net)
             demand = Demand(streets, 3000)
-            demand.read_routes(self.file(all_ways(streets)))
+            demand.read_routes(self.file(all_ways(streets) + all_movements(streets)))
             first, back, _ = self.there_and_back(streets, demand, every_turn)
             self.assertEqual(first, back, seed)
 
@@ -386,6 +373,18 @@ def all_ways(streets: Streets) -> str:
     edges = [edge for edge in streets.edges if streets.edges[edge].lanes[0].length > 90]
     ways = [way for start in edges for end in edges if len(way := streets.route(start, end) or []) > 1]
     return "".join(f'<vehicle id="{n}" depart="{n}"><route edges="{" ".join(way)}"/></vehicle>' for n, way in enumerate(ways))
+
+
+def all_movements(streets: Streets) -> str:
+    """A vehicle for each turn that a signal allows, from where its road begins, as rows of a file of routes."""
+    ways = []
+    for name in streets.programs:
+        for start, end in sorted({(edge_of(move.lane), edge_of(move.exit_lane)) for move in streets.junctions.movements[name]}):
+            way = [start, end]
+            while len(before := streets.before[way[0]]) == 1 and before[0] not in way:
+                way.insert(0, before[0])
+            ways.append(way)
+    return "".join(f'<vehicle id="turn{n}" depart="1"><route edges="{" ".join(way)}"/></vehicle>' for n, way in enumerate(ways))
 
 
 def every_turn(layout: Layout, arrivals: Path, to: Path) -> None:

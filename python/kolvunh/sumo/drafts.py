@@ -85,11 +85,10 @@ class Draft:
         vehicles: Sequence[Vehicle],
         walkers: Sequence[Vehicle] = (),
     ) -> None:
-        driven = {way for vehicle in vehicles for way in itertools.pairwise(vehicle.edges)}
-        self.edges, self.places, self.nodes = edges, places, {name: node.driven(driven) for name, node in nodes.items()}
+        self.edges, self.places, self.nodes = edges, places, dict(nodes)
         self.told = Counter[str]()
         self.speeds = {lane.name: lane.speed for edge in edges.values() for lane in edge.lanes}
-        self._at = {group.edge: name for name, node in self.nodes.items() for group in node.groups if group.cross is None}
+        self._at = {group.edge: name for name, node in nodes.items() for group in node.groups if group.cross is None}
         self._junctions = {name: {move.junction for move in node.moves} for name, node in nodes.items()}
         self._walkers = walkers
         ways = [(vehicle.second, list(self._legs(vehicle.edges))) for vehicle in vehicles]

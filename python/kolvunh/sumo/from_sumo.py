@@ -8,9 +8,9 @@ jtrrouter takes them, flows need no end; with --counts, `entered` or `count` of 
 from the number N.
 
 A signal is a node where its greens are 2 to 4 phases; any other is passed as if it were not there. A link is the lanes of an edge that
-are green in the same phases and give way in the same ones, from the signal before it; of movements those count that somebody takes.
-A crossing is a link on which people walk, and is left out by --no-walks. Conflicts, and who gives way, are those of SUMO's junctions.
-What a network file can't say, and what is done in its place, is told on standard error, a line each.
+are green in the same phases and give way in the same ones, from the signal before it. A crossing is a link on which people walk, and is
+left out by --no-walks. Conflicts, and who gives way, are those of SUMO's junctions. What a network file can't say, and what is done in
+its place, is told on standard error, a line each.
 
 Writes DIR/net.toml, DIR/arrivals.csv, DIR/places.csv for to_sumo.py, and DIR/names.csv, which says for each node, phase and link what
 it is in SUMO. With --report the greens of a report on DIR/net.toml become DIR/report.add.xml, signal programs for NET.net.xml.
@@ -142,7 +142,7 @@ def imported(options: Namespace) -> None:
         tell(lines_on(streets, nodes, reasons), {})
         raise Fault(f"{options.network}: no vehicle passes a signal that is a node")
     write_draft(draft, options.folder)
-    tell(lines_on(streets, draft.nodes, reasons), {**demand.told, **draft.told})
+    tell(lines_on(streets, nodes, reasons), {**demand.told, **draft.told})
     if options.report:
         programs = report_programs(nodes, options.folder, read_greens(options.report))
         (options.folder / "report.add.xml").write_text(programs, encoding="utf-8")

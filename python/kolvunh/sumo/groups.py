@@ -6,7 +6,7 @@ home is the phase in which most of its movements need not give way; of several s
 
 import math
 from collections import defaultdict
-from collections.abc import Container, Iterable, Iterator, Mapping, Sequence
+from collections.abc import Iterable, Iterator, Mapping, Sequence
 from typing import NamedTuple, Protocol
 
 from .streets import Movement, edge_of
@@ -19,13 +19,7 @@ INSIDE, FOLLOWING = 2, 2  # vehicles that wait within a junction, for which thes
 WALK = 5  # seconds in which a crossing may be entered
 WALKING = 1.2  # metres a second
 
-Way = tuple[str, str]  # from edge to edge
 Walks = Mapping[int, int]  # the places of crossings in a signal's state, and for how many seconds they may be entered
-
-
-def way_of(move: Movement) -> Way:
-    """From which edge to which a movement leads."""
-    return edge_of(move.lane), edge_of(move.exit_lane)
 
 
 def place_of(lane: str) -> int:
@@ -79,21 +73,13 @@ class Node:
         states: Sequence[tuple[float, str]],
         relations: Relations,
         crossings: Mapping[Movement, float] | None = None,
-        ways: Container[Way] | None = None,
     ) -> None:
-        """Only the movements that lead from edge to edge by one of `ways` count, where it is given."""
-        self.name, self.moves, self.relations, self._states = name, list(moves), relations, states
+        self.name, self.moves, self.relations = name, list(moves), relations
         self.crossings = dict(crossings or {})
-        self._driven = [move for move in moves if ways is None or way_of(move) in ways]
         self.losses: list[Loss] = []
         self.phases = self._phases(states)
         self.groups = self._groups()
         self.used, self.marked = self._choose()
-
-    def driven(self, ways: Container[Way]) -> "Node":
-        """The same signal for those alone who go from edge to edge by one of these ways, where it is a node for them."""
-        node = Node(self.name, self.moves, self._states, self.relations, self.crossings, ways)
-        return self if not node._driven or node.reasons() else node
 
     def _phases(self, states: Sequence[tuple[float, str]]) -> list[Phase]:
         """The states that are greens, each with the yellow and the clear time after it; one that is there twice is one phase."""
@@ -142,14 +128,14 @@ class Node:
     def gives_way_to(self, phase: int, move: Movement) -> Iterator[Movement]:
         """Those to which a movement gives way in a phase."""
         if self.letter(phase, move) == "g":
-            for other in (*self._driven, *self.crossings):
+            for other in (*self.moves, *self.crossings):
                 if self.is_green(phase, other) and self.relations.cross(move, other) and self.relations.gives_way(move, other):
                     yield other
 
     def _groups(self) -> list[Group]:
         """The lanes of each edge by their greens and by where they give way, and each crossing."""
         lanes: dict[str, list[Movement]] = defaultdict(list)
-        for move in self._driven:
+        for move in self.moves:
             lanes[move.lane].append(move)
         groups: dict[tuple[str, frozenset[int], frozenset[int]], Group] = {}
         for lane in sorted(lanes, key=lambda lane: (edge_of(lane), place_of(lane))):
@@ -199,7 +185,7 @@ class Node:
     def _home(self, group: Group, phases: Iterable[int]) -> int | None:
         """The phase of these in which a group has its home."""
         free = {phase: sum(self.letter(phase, move) == "G" for move in group.moves) for phase in phases if phase in group.greens}
-        driven = {phase for phase in free if any(self.is_green(phase, move) for move in self._driven)}
+        driven = {phase for phase in free if any(self.is_green(phase, move) for move in self.moves)}
         return max(free, key=lambda phase: (free[phase], phase in driven, self.phases[phase].seconds), default=None)
 
     def _choose(self) -> tuple[list[int], set[int]]:
