@@ -4,6 +4,7 @@ ghost use Rattle.outside_world.specs.Keeping.{IsKept, IsPiece};
 ghost use Rattle.outside_world.specs.declared.source.LineRead.TheVariants as LineRead;
 
 use crate::source::LineRead;
+use memchr::memchr;
 
 /// Keeps of a further piece of a line as much as there is memory for, and no more than `most` bytes in all. Once a part alone is kept,
 /// nothing more is.
@@ -46,7 +47,7 @@ pub(crate) fn piece_of(bytes: &[u8]) -> usize
     ensures piece { IsPiece bytes.now result }
     ensures some { 0 < length bytes.now → 0 < result }
 {
-    match bytes.iter().position(|&byte| byte == b'\n') {
+    match memchr(b'\n', bytes) {
         Some(place) => place + 1,
         None => bytes.len(),
     }
