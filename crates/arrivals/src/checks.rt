@@ -7,13 +7,11 @@ ghost use Rattle.arrivals.specs.Rows.{IsSource, HasBounds, AreRows};
 ghost use Rattle.arrivals.specs.Stored.{IsRefused, IsTaken};
 
 use crate::rows::{ArrivalRow, RowFault};
+use net_parts::MOST_OF_ALL;
 use road_net::Network;
 
 /// The most that one row may bring, in thousandths of a vehicle.
 pub(crate) const MOST_OF_ROW: u32 = 1_000_000;
-
-/// The most that all rows may bring together, in thousandths of a vehicle.
-const MOST_OF_ALL: u32 = 2_000_000_000;
 
 /// What rows bring with this one, which has this number, where those before it bring `whole`.
 pub(crate) fn check(

@@ -19,5 +19,5 @@ pub use scenes::{
     fetch_scene_with,
 };
 pub use status::Status;
-pub use texts::{Flaw, FromText, fetch};
+pub use texts::{Flaw, FromText, MOST_BYTES, fetch};
 pub use totals::push_totals;

@@ -11,7 +11,7 @@ use text_faults::BadText;
 /// The greatest length of a text, in bytes.
 ///
 /// docs/FORMATS.md, "Numbers and lines".
-const MOST_BYTES: usize = 100_663_296;
+pub const MOST_BYTES: usize = 100_663_296;
 
 /// Why a text is read as nothing.
 #[derive(Debug, Clone, Copy, PartialEq, Eq)]

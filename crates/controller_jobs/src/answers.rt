@@ -13,8 +13,8 @@ ghost use Rattle.road_net.specs.Network.{IsNetwork};
 ghost use Rattle.round_states.specs.States.{IsStateOf};
 
 use crate::decide::{decided_text, turn_text};
-use crate::requests::{Gathered, Lost, MOST_BYTES, names_after_end, split_name};
-use commands::{Named, Refusal, TextPlace};
+use crate::requests::{Gathered, Lost, names_after_end, split_name};
+use commands::{MOST_BYTES, Named, Refusal, TextPlace};
 use outside_world::LineRead;
 use record_text::node_named;
 use road_net::{Network, law_of_network};

@@ -7,13 +7,9 @@ ghost use Rattle.controller_jobs.specs.Gathering.{IsFirstComma, IsGathered, IsOf
 ghost use Rattle.controller_jobs.specs.Requests.{EndsRequest, names_after_end, names_in};
 ghost use Rattle.outside_world.specs.declared.source.LineRead.TheVariants as variant;
 
+use commands::MOST_BYTES;
 use outside_world::LineRead;
 use std::alloc::{AllocError, Global};
-
-/// The greatest length of a state's text, in bytes.
-///
-/// docs/FORMATS.md, "Numbers and lines".
-pub(crate) const MOST_BYTES: usize = 100_663_296;
 
 /// How many bytes at the front of a line say whether it ends a request.
 pub(crate) const FRONT: usize = 4;

@@ -5,8 +5,8 @@ ghost use Rattle.controller_jobs.specs.Gathering.{EndsServing, IsAnsweredAll, Is
 ghost use Rattle.controller_jobs.specs.Serving.{IsAnswer, Serves, answer_to_others};
 
 use crate::answers::answer;
-use crate::requests::{FRONT, Gathered, MOST_BYTES, ends_request};
-use commands::{Refusal, Status, TextPlace, fetch, refuse};
+use crate::requests::{FRONT, Gathered, ends_request};
+use commands::{MOST_BYTES, Refusal, Status, TextPlace, fetch, refuse};
 use outside_world::{Failed, LineRead, Shelf, Sink, Source};
 use road_net::Network;
 use std::alloc::{AllocError, Global};
@@ -67,7 +67,8 @@ fn answer_all<I: Source, O: Sink>(
     source: &mut I,
     out: &mut O,
 ) -> Result<(), Refusal>
-    ensures { IsAnsweredAll net.now (I.state source.old) (I.state source.new) (O.state out.old) (O.state out.new) result }
+    ensures { IsAnsweredAll net.now (I.state source.old) (I.state source.new)
+        (O.state out.old) (O.state out.new) result }
 {
     let mut line = Vec::with_capacity(alloc, FRONT)?;
     let mut gathered = Gathered::none(alloc);

@@ -1,4 +1,4 @@
-//! The bounds of what stands in a draft.
+//! The bounds of what is in a draft.
 ghost use Rattle.std.specs.Prelude.{◌≡◌, ◌*◌, ◌≤◌, ◌↔◌, OnOk, IfErr, IfSome, IsTrue, All, length, count_by};
 ghost use Rattle.net_parts.specs.Limits.{most_links, most_nodes};
 ghost use Rattle.foundation.specs.Firsts.{IsFirstAt, IsFirstNot, FromOne};
@@ -8,8 +8,8 @@ ghost use Rattle.net_parts.specs.FirstFaults.{IsNodeFault, IsLinkFault, FailsBou
 ghost use Rattle.net_parts.specs.Bounds.{IsNameByte, IsName, IsActStep, IsRun, HasCounts, HasRun, IsUnmarkedCount, HasNodeBounds, HasYieldBounds, HasWalkBounds, HasLinkBounds, IsBoundedPhase, IsBoundedNode, IsBoundedTurn, IsBoundedLink, IsBounded};
 
 use net_parts::{
-    Draft, DraftLink, DraftNode, DraftPhase, DraftTurn, DraftYield, Limits, MOST_ROUNDS,
-    MOST_SECONDS, NetFault, Place, Run, Section, Walk,
+    Draft, DraftLink, DraftNode, DraftPhase, DraftTurn, DraftYield, Limits, MOST_LOOK, MOST_ROUNDS,
+    MOST_SAT, MOST_SECONDS, MOST_TRAVEL, NetFault, Place, Run, Section, Walk,
 };
 
 /// Tests the bounds of a draft. The fault is `Bound` at the first place where one does not hold.
@@ -63,7 +63,7 @@ fn is_run(run: &Run) -> bool
     let has_options = has_options(run);
     let seconds = seconds_of(run);
     (1..=30).contains(&run.step)
-        && (10..=180).contains(&run.look)
+        && (10..=MOST_LOOK).contains(&run.look)
         && run.step <= run.look
         && run.gap <= 10
         && (1..=MOST_ROUNDS).contains(&run.rounds)
@@ -197,8 +197,8 @@ fn has_link_bounds(link: &DraftLink) -> bool
     ensures { IsTrue result ↔ HasLinkBounds link.now }
 {
     is_name(link.name.as_str())
-        && (1..=120).contains(&link.travel)
-        && (1..=5000).contains(&link.sat)
+        && (1..=MOST_TRAVEL).contains(&link.travel)
+        && (1..=MOST_SAT).contains(&link.sat)
         && (1..=20).contains(&link.weight)
         && link.turns.len() <= 16
         && has_yields(link)

@@ -1,4 +1,4 @@
-//! The parts of a road network: by names, as they stand in its file (a draft), with the faults of such files; and by numbers, where nodes and
+//! The parts of a road network: by names, as they are in its file (a draft), with the faults of such files; and by numbers, where nodes and
 //! links are numbered from 0 in the order of the file, and numbers stand for their names.
 #![tactic(auto)]
 
@@ -15,7 +15,8 @@ pub use drafts::{
 };
 pub use faults::{NetFault, Place, Section};
 pub use limits::{
-    Limits, MOST_CONFLICTS, MOST_LINKS, MOST_NODES, MOST_ROUNDS, MOST_SECONDS, SMALL_SECONDS,
+    Limits, MOST_CONFLICTS, MOST_LINKS, MOST_LOOK, MOST_NODES, MOST_OF_ALL, MOST_ROUNDS, MOST_SAT,
+    MOST_SECONDS, MOST_TRAVEL, SMALL_SECONDS,
 };
 pub use names::Names;
 pub use parts::Parts;

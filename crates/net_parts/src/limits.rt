@@ -15,14 +15,26 @@ pub const MOST_LINKS: u32 = 8192;
 /// The most conflicts of a network.
 pub const MOST_CONFLICTS: u32 = 32_768;
 
+/// The most seconds from the begin of a link to its end.
+pub const MOST_TRAVEL: u32 = 120;
+
+/// The most that leaves a link in a second, in thousandths of a vehicle.
+pub const MOST_SAT: u32 = 5000;
+
+/// The most seconds that a planning looks ahead.
+pub const MOST_LOOK: u32 = 180;
+
 /// The most rounds of a run.
 pub const MOST_ROUNDS: u32 = 17_280;
 
 /// The most seconds of a run: a day.
 pub const MOST_SECONDS: u32 = 86_400;
 
-/// How many seconds the files of every network may name, however short its run is.
+/// A second in a file of a network may be any below this, however short its run is.
 pub const SMALL_SECONDS: u32 = 18_000;
+
+/// The most that enters a network in all, in thousandths of a vehicle.
+pub const MOST_OF_ALL: u32 = 2_000_000_000;
 
 /// How many nodes, links, conflicts and rounds there may be.
 #[derive(Debug, Clone, Copy, PartialEq, Eq)]

@@ -23,7 +23,7 @@ use road_net::{LinkSense, Network, Sensed};
 use std::alloc::{AllocError, Global};
 
 /// The most that a node may sense, in thousandths of a vehicle.
-const MOST: u32 = 2_000_000_000;
+const MOST: u32 = net_parts::MOST_OF_ALL;
 
 /// Tests that what is sensed of each link is told once. The fault is `Sense` of the least link of which it is not.
 pub(crate) fn check_senses(

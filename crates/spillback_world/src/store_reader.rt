@@ -10,7 +10,7 @@ use road_net::Network;
 use std::alloc::{AllocError, Global};
 
 /// The most that a link can hold, in thousandths of a vehicle.
-const MOST_OF_LINK: u32 = 2_000_000_000;
+const MOST_OF_LINK: u32 = net_parts::MOST_OF_ALL;
 
 /// How much a link can hold.
 #[derive(Debug, Clone, Copy, PartialEq, Eq)]
