@@ -10,12 +10,12 @@ use Rattle.board_model.specs.Calls.{calls_at, event_of, events_by, AreLogsOf}
 use Rattle.board_model.specs.declared.calls.Call.{Call}
 use Rattle.histories.specs.declared.steps.BoardStep.{BoardStep}
 use Rattle.histories.specs.Steps.{is_publish_of}
-use Rattle.histories.specs.Calls.{step_of, AreStepRounds}
+use Rattle.histories.specs.Calls.{step_of, steps_of_rounds, AreStepRounds}
 use Rattle.histories.specs.Places.{sent}
 use Rattle.histories.proofs.EventKinds.{is_publish, is-publish}
 use Rattle.histories.proofs.Marks.{publish-of}
 use Rattle.histories.proofs.Lists.{filter-yes, filter-no, filter-comm, filter-map}
-use Rattle.histories.proofs.Places.{repeated, steps-are}
+use Rattle.histories.proofs.Places.{steps-are}
 use Rattle.std.proofs.lemmas.List.Elements.{filter-append}
 
 -- the events that publish
@@ -80,16 +80,16 @@ none-by-steps l cs e = empty (filter (λ c. is_publish_of l (step_of c)) cs) (sy
     empty [] e = refl
     empty (x ∷ xs) e = absurd (let f : step_of x ∷ map step_of xs ≡ [] = e in cc)
 
-none-repeated : (l r : ℕ) (s : List BoardStep) → filter (is_publish_of l) s ≡ [] → filter (is_publish_of l) (repeated r s) ≡ []
-none-repeated l zero s none = refl
-none-repeated l (suc r) s none = filter-append (is_publish_of l) (repeated r s) s ∙ ap (λ x. x ++ filter (is_publish_of l) s) (none-repeated l r s none) ∙ none
+none-steps_of_rounds : (l r : ℕ) (s : List BoardStep) → filter (is_publish_of l) s ≡ [] → filter (is_publish_of l) (steps_of_rounds r s) ≡ []
+none-steps_of_rounds l zero s none = refl
+none-steps_of_rounds l (suc r) s none = filter-append (is_publish_of l) (steps_of_rounds r s) s ∙ ap (λ x. x ++ filter (is_publish_of l) s) (none-steps_of_rounds l r s none) ∙ none
 
 module _ (steps : ℕ → List BoardStep) (rounds : ℕ) (calls : ℕ → List Call) (turns : AreStepRounds steps rounds calls) (from : ℕ → ℕ) (is-from : IsFrom from steps) (logs : ℕ → List BoardEvent) (tied : AreLogsOf calls logs) where
   by-node : (l n : ℕ) → events_by n (publishing (logs l)) ≡ map (event_of n) (filter (λ c. is_publish_of l (step_of c)) (calls n))
   by-node l n = filter-comm (λ (e : BoardEvent). eqb e.node n) (λ (e : BoardEvent). is_publish e.kind) (logs l) ∙ ap publishing ((tied l).tied n) ∙ publishing-calls n l (calls n)
 
   others : (l n : ℕ) → n ≢ from l → events_by n (publishing (logs l)) ≡ []
-  others l n other = by-node l n ∙ ap (map (event_of n)) (none-by-steps l (calls n) (ap (filter (is_publish_of l)) (steps-are steps rounds calls turns n) ∙ none-repeated l rounds (steps n) (is-from l n other)))
+  others l n other = by-node l n ∙ ap (map (event_of n)) (none-by-steps l (calls n) (ap (filter (is_publish_of l)) (steps-are steps rounds calls turns n) ∙ none-steps_of_rounds l rounds (steps n) (is-from l n other)))
 
   pub published-is : (l : ℕ) → published (logs l) ≡ sent l (calls (from l))
   published-is l = published-publishing (logs l) ∙ ap published (sym (only (from l) (publishing (logs l)) (others l)) ∙ by-node l (from l)) ∙ published-calls (from l) l (calls (from l))

@@ -12,6 +12,11 @@ step_of call = if call.publishes then Publish call.link else Read call.link
 abbrev pub IsRising : List Call → Type 0
 IsRising calls = AllPairs (λ early late. early.stamp < late.stamp) calls
 
+-- the steps of `rounds` rounds, where each round has these
+abbrev pub steps_of_rounds : ℕ → List BoardStep → List BoardStep
+steps_of_rounds zero steps = []
+steps_of_rounds (suc rounds) steps = steps_of_rounds rounds steps ++ steps
+
 -- Each node has these steps in a round, and made these calls.
 module _ (steps : ℕ → List BoardStep) where
   -- the last round of all nodes: their calls split into earlier ones, with stamps below a mark, and their steps, with stamps

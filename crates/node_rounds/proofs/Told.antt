@@ -15,10 +15,10 @@ use Rattle.histories.specs.declared.steps.BoardStep.{BoardStep}
 use Rattle.histories.specs.declared.steps.BoardStep.TheVariants.{Read, Publish}
 use Rattle.histories.proofs.Lists.{filter-map}
 use Rattle.intersection_actor.specs.Commits.{Commitment}
-use Rattle.histories.specs.Calls.{AreStepRounds, step_of}
+use Rattle.histories.specs.Calls.{AreStepRounds, step_of, steps_of_rounds}
 use Rattle.histories.specs.Places.{sent}
 use Rattle.net_parts.specs.Numbers.{Net}
-use Rattle.node_rounds.specs.Told.{AreCallsOf, heard_of, repeated}
+use Rattle.node_rounds.specs.Told.{AreCallsOf, heard_of}
 use Rattle.runs.specs.Runs.{told_in}
 use Rattle.node_rounds.specs.Rounds.{AreCallsIn}
 
@@ -120,7 +120,7 @@ module _ (net : Net) (heard : ℕ → ℕ → List Heard) (made : ℕ → ℕ �
     rounds-made rounds early before,
   )
 
-  pub steps-made : (rounds : ℕ) (calls : ℕ → List Call) → AreCallsIn net heard made rounds calls → (node : ℕ) → map step_of (calls node) ≡ repeated rounds (board_steps net node)
+  pub steps-made : (rounds : ℕ) (calls : ℕ → List Call) → AreCallsIn net heard made rounds calls → (node : ℕ) → map step_of (calls node) ≡ steps_of_rounds rounds (board_steps net node)
   steps-made zero calls are node = ap (map step_of) (are node)
   steps-made (suc rounds) calls (early, last, mark, is, before) node =
       ap (map step_of) (is.split node) ∙ map-append step_of (early node) (last node) ∙ ap (λ s. map step_of (early node) ++ s) (is.own node).steps

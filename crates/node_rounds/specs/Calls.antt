@@ -9,16 +9,15 @@ use Rattle.histories.specs.Histories.{IsLawful}
 use Rattle.histories.specs.Merges.{IsMerge}
 use Rattle.histories.specs.Steps.{board_steps}
 use Rattle.intersection_actor.specs.declared.records.PlanRecord.{PlanRecord}
-use Rattle.histories.specs.Calls.{step_of}
+use Rattle.histories.specs.Calls.{step_of, steps_of_rounds}
 use Rattle.net_parts.specs.Numbers.{Net}
 use Rattle.runs.specs.Promises.{IsKeptRun}
 use Rattle.runs.specs.declared.records.RunRecord.{RunRecord}
-use Rattle.node_rounds.specs.Told.{repeated}
 
 -- The calls of a node's pass are its board steps in all rounds, round by round; and each reading has the version that the plan of its
 -- round names for its link.
 pub record AreStepsOf (net : Net) (run : RunRecord) (node : ℕ) (calls : List Call) : Type 0 where
-  pub steps : map step_of calls ≡ repeated net.run.rounds (board_steps net node)
+  pub steps : map step_of calls ≡ steps_of_rounds net.run.rounds (board_steps net node)
   pub named : (place : ℕ) (call : Call) (plan : PlanRecord) → slice_get calls place ≡ Some call → call.publishes ≡ false
       → Contains run.plans plan → plan.node ≡ node → plan.round ≡ place / length (board_steps net node)
       → Contains plan.used (record { link = call.link; version = call.version })

@@ -1,9 +1,8 @@
 -- What the calls of a node tell of its round.
-use Rattle.std.specs.Prelude.{◌≡◌, ℕ, zero, suc, true, false, List, [], ◌++◌, All, Contains, map}
+use Rattle.std.specs.Prelude.{◌≡◌, ℕ, true, false, List, All, Contains, map}
 use Rattle.board_model.specs.declared.boards.Heard.{Heard}
 use Rattle.board_model.specs.declared.calls.Call.{Call}
 use Rattle.histories.specs.Steps.{board_steps}
-use Rattle.histories.specs.declared.steps.BoardStep.{BoardStep}
 use Rattle.intersection_actor.specs.Commits.{Commitment}
 use Rattle.histories.specs.Calls.{step_of}
 use Rattle.net_parts.specs.Numbers.{Net}
@@ -19,8 +18,3 @@ pub record AreCallsOf (net : Net) (round node : ℕ) (heard : List Heard) (made 
   pub steps : map step_of calls ≡ board_steps net node
   pub hears : All (λ call. call.publishes ≡ false → Contains heard (heard_of call)) calls
   pub tells : All (λ call. call.publishes ≡ true → call.forecast ≡ told_in net round call.link made) calls
-
--- the steps of `rounds` rounds, where each round has these
-abbrev pub repeated : ℕ → List BoardStep → List BoardStep
-repeated zero steps = []
-repeated (suc rounds) steps = repeated rounds steps ++ steps
