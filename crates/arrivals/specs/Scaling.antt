@@ -16,7 +16,7 @@ share_of factor amount = amount * factor / 1000
 abbrev pub total_entered : (ℕ → ℕ → ℕ) → ℕ → ℕ → ℕ
 total_entered arriving link n = total (λ second. arriving second link) n
 
--- what enters is scaled by a factor: of all that entered a link in the first n seconds, this many thousandths then do, rounded down
+-- what enters is scaled by a factor: of all that entered a link in the first n seconds, `factor` thousandths then do, rounded down
 abbrev pub IsScaled : ℕ → (ℕ → ℕ → ℕ) → (ℕ → ℕ → ℕ) → Type 0
 IsScaled factor arriving scaled = (link n : ℕ) → total_entered scaled link n ≡ share_of factor (total_entered arriving link n)
 

@@ -1,4 +1,4 @@
--- What the steps of the code answer, and what they keep. No public clause names these words.
+-- What the steps of the code answer, and what they keep. No public clause names these definitions.
 use Rattle.std.specs.Prelude.{◌≡◌, ℕ, ◌+◌, ◌-◌, ◌*◌, ◌<◌, ◌≤◌, ◌⊎◌, List, [], ◌∷◌, ◌++◌, None, Some, Result, Ok, Err, IsSomeAnd, length, slice_index_or, sum_by, All, AllPairs}
 use Rattle.foundation.specs.Options.{each}
 use Rattle.net_parts.specs.Limits.{most_of_all}
@@ -50,7 +50,7 @@ IsFaultAt net rows fields number fault = Reads net fields number (Err fault) ⊎
 abbrev pub order_of : ArrivalRow → ℕ
 order_of r = r.second * 4294967296 + r.link
 
--- the last row, where there is one, does not stand after this place
+-- the last row, where there is one, is not after this place
 abbrev pub EndsBy : ℕ → List ArrivalRow → Type 0
 EndsBy place rows = (d : ArrivalRow) → 0 < length rows → order_of (slice_index_or rows (length rows - 1) d) ≤ place
 

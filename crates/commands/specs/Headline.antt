@@ -56,7 +56,7 @@ pub record AreTurnTotals (net : Net) (arriving : ℕ → ℕ → ℕ) (left : Ru
   pub counted : IsTallyOf run.plans tally
   pub bounds : IsTally tally
 
--- The bytes are the records of what the run of the turn order counted, of each link and in all, as they end its report.
+-- The bytes are the records of what the run of the turn order counted, of each link and in all: those at the end of its report.
 pub record IsTotalsText (net : Net) (arriving : ℕ → ℕ → ℕ) (bytes : List ℕ) : Type 0 where
   pub run : RunRecord
   pub runs : IsRunOf net arriving (turn_order net) run

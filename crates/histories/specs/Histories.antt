@@ -1,4 +1,4 @@
--- Histories: lists of nodes, one for each board step. Which are lawful, and which step and version stand at a place.
+-- Histories: lists of nodes, one for each board step. Which are lawful, and which step and version are at a place.
 use Rattle.std.specs.Prelude.{◌+◌, ◌≡◌, ℕ, zero, suc, ◌/◌, ◌%◌, ◌==◌, ◌<◌, ◌≤◌, List, [], ◌++◌, length, take, replicate, count_by, slice_index, slice_index_or}
 use Rattle.std.specs.List.{concat, flat_map, range_with_len}
 use Rattle.net_parts.specs.Numbers.{Net}
@@ -6,15 +6,15 @@ use Rattle.histories.specs.declared.steps.BoardStep.{BoardStep}
 use Rattle.histories.specs.declared.steps.BoardStep.TheVariants.{Read}
 use Rattle.histories.specs.Steps.{board_steps, is_publish_of, publishings, readings}
 
--- how often a node stands in a history
+-- how often a node is in a history
 abbrev pub count : ℕ → List ℕ → ℕ
 count node history = count_by (λ n. n == node) history
 
--- how often the node at a place stands before it
+-- how often the node at a place is before it
 abbrev pub earlier : List ℕ → ℕ → ℕ
 earlier history place = count (slice_index history place) (take place history)
 
--- the entry of a node with `before` earlier ones stands at this place
+-- the entry of a node with `before` earlier ones is at this place
 pub record IsEntry (history : List ℕ) (node before place : ℕ) : Type 0 where
   pub inside : place < length history
   pub node_there : slice_index history place ≡ node
@@ -61,7 +61,7 @@ module _ (steps : ℕ → List BoardStep) where
       let own = steps (slice_index history place) in
       slice_index_or own (earlier history place % length own) (Read 0)
 
-  -- the version of a link at a place: how many Publishes of the link stand before it
+  -- the version of a link at a place: how many Publishes of the link are before it
   abbrev pub version_at : List ℕ → ℕ → ℕ → ℕ
   version_at history link place = count_by (λ before. is_publish_of link (step_at history before)) (range_with_len 0 place)
 
@@ -69,7 +69,7 @@ module _ (steps : ℕ → List BoardStep) where
   abbrev pub IsOfRound : List ℕ → ℕ → ℕ → Type 0
   IsOfRound history link place = (round_at history place ≤ version_at history link place) × (version_at history link place ≤ round_at history place + 1)
 
-  -- wherever a node reads a link, its version is the round of the place: what was told in the round before, and nothing of this one
+  -- wherever a node reads a link, its version is the round of the place: what was published in the round before, and nothing of this one
   abbrev pub ReadsRoundBefore : List ℕ → Type 0
   ReadsRoundBefore history = (place link : ℕ) → place < length history → step_at history place ≡ Read link → version_at history link place ≡ round_at history place
 

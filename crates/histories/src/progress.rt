@@ -155,7 +155,8 @@ fn rounds_without_steps(whole: u32, rounds: u32) -> u32
 
 /// How many board steps each node has in a round. `Err`: out of memory.
 fn step_counts(alloc: Global, net: &Network) -> Result<Vec<u32>, AllocError>
-    ensures counts { IfOk result (λ counts. (n : ℕ) → slice_index_or counts.items n 0 ≡ length (board_steps net.now n)) }
+    ensures counts { IfOk result (λ counts. (n : ℕ) →
+        slice_index_or counts.items n 0 ≡ length (board_steps net.now n)) }
     ensures few { IfOk result (λ counts. All (λ c. c ≤ most_links) counts.items) }
     ensures short { IfOk result (λ counts. most_links * length counts.items < 2 ^ 32) }
 {

@@ -18,8 +18,8 @@ Hand S = Me S View
 abbrev pub IsPast : List BoardEvent → Call → Type 0
 IsPast events call = (call.version ≤ version_of events) × (call.forecast ≡ forecast_of events call.version)
 
--- what a draw tells: the call had not drawn yet; the stamp is above all that the pass knew and above all stamps of the
--- log; and the log has what the pass's own earlier calls at the link tell
+-- what holds after a draw: the call had not drawn yet; the stamp is above all that the pass knew and above all stamps of the
+-- log; and the log has the versions and forecasts of the pass's own earlier calls at the link
 pub record HasDrawn (v : View) (stamp : ℕ) : Type 0 where
   pub once : is_drawn v.flight ≡ false
   pub known : v.known ≤ stamp

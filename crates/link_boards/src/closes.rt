@@ -44,8 +44,8 @@ impl<S: LinkSlot> Boards<S> {
         seat
     }
 
-    // Closes the table, where there is memory for the slots.
-    fn into_room(self, mut home: Vec<S>, passes: Vec<Pass<S>>) -> Vec<S>
+    // Closes the table into memory that is reserved for the slots.
+    fn into_reserved(self, mut home: Vec<S>, passes: Vec<Pass<S>>) -> Vec<S>
         requires passes { AreAllPasses self passes.items }
         requires home { (home.items ≡ []) × (self.links ≤ vec_capacity home) }
         ensures { AreLogsOfPasses self.links passes.items (map S.log result.items) }
@@ -81,7 +81,7 @@ impl<S: LinkSlot> Boards<S> {
         ensures refused { IfErr result (λ refused. (refused.0 ≡ self) × (refused.1.items ≡ passes.items)) }
     {
         match Vec::with_capacity(alloc, self.links as usize) {
-            Ok(home) => Ok(self.into_room(home, passes)),
+            Ok(home) => Ok(self.into_reserved(home, passes)),
             Err(error) => Err((self, passes, error)),
         }
     }

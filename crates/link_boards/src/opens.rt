@@ -28,13 +28,13 @@ fn none_waiting(alloc: Global, links: u32) -> Result<Vec<AtomicU64>, AllocError>
 
 // What is taken before the table is made.
 #[derive(Drop)]
-struct Room<S: LinkSlot> {
+struct Reserved<S: LinkSlot> {
     waiting: Vec<AtomicU64>,
     words: Vec<u64>,
     passes: Vec<Pass<S>>,
 }
 
-fn make_room<S: LinkSlot>(alloc: Global, links: u32, passes: u32) -> Result<Room<S>, AllocError>
+fn reserve<S: LinkSlot>(alloc: Global, links: u32, passes: u32) -> Result<Reserved<S>, AllocError>
     ensures waiting { IfOk result (λ r. vec_len r.waiting ≡ links) }
     ensures words { IfOk result (λ r. r.words.items ≡ replicate (links + 1) 0) }
     ensures passes { IfOk result (λ r. (r.passes.items ≡ []) × (passes ≤ vec_capacity r.passes)) }
@@ -42,7 +42,7 @@ fn make_room<S: LinkSlot>(alloc: Global, links: u32, passes: u32) -> Result<Room
     let waiting = none_waiting(alloc, links)?;
     let words = Vec::from_elem(alloc, 0u64, links as usize + 1)?;
     let passes = Vec::with_capacity(alloc, passes as usize)?;
-    Ok(Room {
+    Ok(Reserved {
         waiting,
         words,
         passes,
@@ -83,7 +83,7 @@ impl<S: LinkSlot> Boards<S> {
         requires passes { (passes ≡ self.now.passes) × (1 ≤ passes) × (passes ≡ length calls.now) }
         requires calls { sum calls.now ≤ seat.me.0.left }
         requires dealer { IsDealer 1 seat.me.0 }
-        requires room { (all.items ≡ []) × (passes ≤ vec_capacity all) }
+        requires capacity { (all.items ≡ []) × (passes ≤ vec_capacity all) }
         ensures { result.items ≡ fresh_passes self.now.id calls.now }
     {
         for number in 1..passes {
@@ -124,14 +124,14 @@ impl<S: LinkSlot> Boards<S> {
     {
         let links = slots.len() as u32;
         let passes = calls.len() as u32;
-        let Ok(room) = make_room(alloc, links, passes) else {
+        let Ok(reserved) = reserve(alloc, links, passes) else {
             return Err(slots);
         };
-        let Room {
+        let Reserved {
             waiting,
             words,
             passes: all,
-        } = room;
+        } = reserved;
         let terms = Terms {
             passes: passes as u64,
         };

@@ -20,7 +20,7 @@ pub record IsName (name : List ℕ) : Type 0 where
   pub count : (1 ≤ length name) × (length name ≤ 16)
   pub bytes : All IsNameByte name
 
--- a step of actuated control, in a run whose rounds have so many seconds: it divides these
+-- a step of actuated control, in a run whose rounds have `step` seconds: it divides these
 pub record IsActStep (step act_step : ℕ) : Type 0 where
   pub bounds : (1 ≤ act_step) × (act_step ≤ 30)
   pub whole : step % act_step ≡ 0

@@ -34,7 +34,7 @@ most_rounds = 17280
 abbrev pub most_seconds : ℕ
 most_seconds = 86400
 
--- seconds that the files of every network may name, however short its run is
+-- a second in a file of a network may be any below this, however short its run is
 abbrev pub small_seconds : ℕ
 small_seconds = 18000
 

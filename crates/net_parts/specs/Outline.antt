@@ -70,7 +70,7 @@ node_name_at net n = slice_index_or net.node_names n []
 abbrev pub link_name_at : Net → ℕ → List ℕ
 link_name_at net l = slice_index_or net.link_names l []
 
--- how many seconds the files of a network may name: as many as its run has, and 18,000 at the least
+-- a second in a file of a network is below this: the seconds of its run, and 18,000 at the least
 abbrev pub known_seconds : Net → ℕ
 known_seconds net = max small_seconds (net.run.rounds * net.run.step)
 

@@ -1,4 +1,4 @@
-//! A road network by names, as it stands in its file.
+//! A road network by names, as it is in its file.
 use crate::roads::Walk;
 use foundation::items::Items;
 use foundation::text::Text;
@@ -42,8 +42,8 @@ impl CrossesThreads for Run {}
 
 /// A road network by names, in the order of its file (docs/FORMATS.md, "Network file").
 ///
-/// It is what stands in the file, so a number, a count or a name may be out of the bounds that are given
-/// here, and a name may stand for nothing. All this is tested when the network is made.
+/// It is what is in the file, so a number, a count or a name may be out of the bounds that are given
+/// here, and a name may be that of no node or link. All this is tested when the network is made.
 ///
 /// The name of a node or link has 1 to 16 characters out of a to z, 0 to 9 and `_`.
 #[derive(Drop)]
@@ -74,7 +74,7 @@ pub struct DraftNode {
 /// A phase of a node, and the links that it serves.
 #[derive(Drop)]
 pub struct DraftPhase {
-    /// Its six times, in seconds, and its mark; the bounds stand at the fields of `Phase`.
+    /// Its six times, in seconds, and its mark; the fields of `Phase` give their bounds.
     pub phase: Phase,
     /// The names of the links that it serves, at most 16. Each ends at the node.
     pub links: Items<Text>,
@@ -101,7 +101,7 @@ pub struct DraftLink {
     pub weight: u32,
     /// The links to which it gives way; none where the file does not say it.
     pub yields: Option<DraftYield>,
-    /// How pedestrians go over it; none where the file does not say it. The bounds stand at the fields of `Walk`.
+    /// How pedestrians go over it; none where the file does not say it. The fields of `Walk` give their bounds.
     pub walk: Option<Walk>,
     /// Where its vehicles turn at its end: at most 16 turns, none where it leaves the network or the
     /// file has no array of them. Their shares add up to 1000 where it ends at a node.

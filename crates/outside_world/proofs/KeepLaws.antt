@@ -59,7 +59,7 @@ piece-ends bytes count piece e some within at =
     rw (first, last) refl
 
 -- what a source in memory gives, from the bytes that are left
-module _ (bytes : List ℕ) (at count room most faults : ℕ) (piece kept : List ℕ) where
+module _ (bytes : List ℕ) (at count capacity most faults : ℕ) (piece kept : List ℕ) where
   came-of : at ≤ length bytes → IsPiece (drop at bytes) count → 0 < count → piece ≡ take count (drop at bytes)
       → Comes (record { left = Some (drop at bytes); faults = faults }) (record { left = Some (drop (at + count) bytes); faults = faults }) piece
   came-of within is some e = record {
@@ -72,14 +72,14 @@ module _ (bytes : List ℕ) (at count room most faults : ℕ) (piece kept : List
     faults = refl;
   }
 
-  pub in-memory : (read : LineRead) → at ≤ length bytes → IsPiece (drop at bytes) count → 0 < count → piece ≡ take count (drop at bytes) → IsKept read piece (min room most) kept
-      → IsRead read (record { left = Some (drop at bytes); faults = faults }) (record { left = Some (drop (at + count) bytes); faults = faults }) room most kept
+  pub in-memory : (read : LineRead) → at ≤ length bytes → IsPiece (drop at bytes) count → 0 < count → piece ≡ take count (drop at bytes) → IsKept read piece (min capacity most) kept
+      → IsRead read (record { left = Some (drop at bytes); faults = faults }) (record { left = Some (drop (at + count) bytes); faults = faults }) capacity most kept
   in-memory End within is some e so = absurd (omega (arith, some, ap length e, ap length so.0, length-take count (drop at bytes), is.within))
   in-memory Whole within is some e so = subst (Comes _ _) (sym so) (came-of within is some e)
   in-memory Part within is some e so = (piece, came-of within is some e, so)
 
 -- the same from a state that shows these bytes, which are read as slices
-module _ (bytes : List ℕ) (at count room most faults : ℕ) (kept : List ℕ) (old : SourceState) (rest whole : List ℕ) (rest_is : rest ≡ bytes) (whole_is : whole ≡ bytes) where
+module _ (bytes : List ℕ) (at count capacity most faults : ℕ) (kept : List ℕ) (old : SourceState) (rest whole : List ℕ) (rest_is : rest ≡ bytes) (whole_is : whole ≡ bytes) where
   rest-of : take (length rest - at) (drop at rest) ≡ drop at bytes
   rest-of = take_all (length rest - at) (drop at rest) (omega (arith, length-drop at rest)) ∙ ap (λ (l : List ℕ). drop at l) rest_is
 
@@ -88,12 +88,12 @@ module _ (bytes : List ℕ) (at count room most faults : ℕ) (kept : List ℕ) 
 
   pub in-slices : (read : LineRead) → old ≡ record { left = Some (drop at bytes); faults = faults } → at ≤ length bytes → (at ≡ length bytes → ⊥)
       → IsPiece (take (length rest - at) (drop at rest)) count → (0 < length (take (length rest - at) (drop at rest)) → 0 < count)
-      → IsKept read (take (at + count - at) (drop at whole)) (min room most) kept
-      → IsRead read old (record { left = Some (drop (at + count) bytes); faults = faults }) room most kept
+      → IsKept read (take (at + count - at) (drop at whole)) (min capacity most) kept
+      → IsRead read old (record { left = Some (drop (at + count) bytes); faults = faults }) capacity most kept
   in-slices read shows within other is some so =
       let more : 0 < length (take (length rest - at) (drop at rest)) = omega (arith, ap length rest-of, length-drop at bytes, within, other) in
-      subst (λ (s : SourceState). IsRead read s (record { left = Some (drop (at + count) bytes); faults = faults }) room most kept) (sym shows)
-      (in-memory bytes at count room most faults (take (at + count - at) (drop at whole)) kept read within
+      subst (λ (s : SourceState). IsRead read s (record { left = Some (drop (at + count) bytes); faults = faults }) capacity most kept) (sym shows)
+      (in-memory bytes at count capacity most faults (take (at + count - at) (drop at whole)) kept read within
       (subst (λ (l : List ℕ). IsPiece l count) rest-of is) (some more) piece-of so)
 
 -- the bytes of a line of a stream that came so far, of which none is a line feed, and what is kept of them
@@ -107,22 +107,22 @@ pub nothing-came : (least : ℕ) (kept : List ℕ) → kept ≡ [] → IsComing 
 nothing-came least kept none = record { came = []; kept = (refl, none); none = All-nil (λ byte. byte ≢ 10); some = λ other. absurd (other refl) }
 
 -- a line of a stream came, and this is kept of it
-ended : (read : LineRead) (room most least old new : ℕ) (line kept : List ℕ) → least ≡ min room most → new ≡ old → IsKept read line least kept → IsLine line
-    → IsRead read (record { left = None; faults = old }) (record { left = None; faults = new }) room most kept
-ended End room most least old new line kept same faults so is = absurd (omega (arith, is.some, ap length so.0))
-ended Whole room most least old new line kept same faults so is = subst (Comes _ _) (sym so) (record { is = is; left = refl; whole = inr tt; faults = faults })
-ended Part room most least old new line kept same faults so is =
+ended : (read : LineRead) (capacity most least old new : ℕ) (line kept : List ℕ) → least ≡ min capacity most → new ≡ old → IsKept read line least kept → IsLine line
+    → IsRead read (record { left = None; faults = old }) (record { left = None; faults = new }) capacity most kept
+ended End capacity most least old new line kept same faults so is = absurd (omega (arith, is.some, ap length so.0))
+ended Whole capacity most least old new line kept same faults so is = subst (Comes _ _) (sym so) (record { is = is; left = refl; whole = inr tt; faults = faults })
+ended Part capacity most least old new line kept same faults so is =
     (line, record { is = is; left = refl; whole = inr tt; faults = faults }, subst (λ (n : ℕ). IsFront line n kept) same so)
 
 -- or the stream ended
-pub stream-ended : (read : LineRead) (room most least old new : ℕ) (kept : List ℕ) → least ≡ min room most → new ≡ old → IsComing read least kept
-    → IsRead read (record { left = None; faults = old }) (record { left = None; faults = new }) room most kept
-stream-ended End room most least old new kept same faults so_far = (ap (λ (n : ℕ). record { left = None; faults = n }) faults, tt, so_far.kept.1)
-stream-ended Whole room most least old new kept same faults so_far =
-    ended Whole room most least old new so_far.came kept same faults so_far.kept
+pub stream-ended : (read : LineRead) (capacity most least old new : ℕ) (kept : List ℕ) → least ≡ min capacity most → new ≡ old → IsComing read least kept
+    → IsRead read (record { left = None; faults = old }) (record { left = None; faults = new }) capacity most kept
+stream-ended End capacity most least old new kept same faults so_far = (ap (λ (n : ℕ). record { left = None; faults = n }) faults, tt, so_far.kept.1)
+stream-ended Whole capacity most least old new kept same faults so_far =
+    ended Whole capacity most least old new so_far.came kept same faults so_far.kept
     (record { some = so_far.some (λ e. absurd (cc)); one = All-take (λ byte. byte ≢ 10) (length so_far.came - 1) so_far.came so_far.none })
-stream-ended Part room most least old new kept same faults so_far =
-    ended Part room most least old new so_far.came kept same faults so_far.kept
+stream-ended Part capacity most least old new kept same faults so_far =
+    ended Part capacity most least old new so_far.came kept same faults so_far.kept
     (record { some = so_far.some (λ e. absurd (cc)); one = All-take (λ byte. byte ≢ 10) (length so_far.came - 1) so_far.came so_far.none })
 
 module _ (least : ℕ) (bytes : List ℕ) (count : ℕ) (piece : List ℕ) (is : IsPiece bytes count) (e : piece ≡ take count bytes) (some : 0 < count) where
@@ -159,8 +159,8 @@ module _ (least : ℕ) (bytes : List ℕ) (count : ℕ) (piece : List ℕ) (is :
             (All-append (λ byte. byte ≢ 10) came (take (length piece - 1) piece) none line.one);
       }
 
-  pub ends-here : (read next : LineRead) (room most old new : ℕ) (kept after : List ℕ) → least ≡ min room most → new ≡ old → IsComing read least kept
+  pub ends-here : (read next : LineRead) (capacity most old new : ℕ) (kept after : List ℕ) → least ≡ min capacity most → new ≡ old → IsComing read least kept
       → ((came : List ℕ) → IsKept read came least kept → IsKept next (came ++ piece) least after)
-      → IsRead next (record { left = None; faults = old }) (record { left = None; faults = new }) room most after
-  ends-here read next room most old new kept after same faults so_far more =
-      ended next room most least old new (so_far.came ++ piece) after same faults (more so_far.came so_far.kept) (one-line so_far.came so_far.none)
+      → IsRead next (record { left = None; faults = old }) (record { left = None; faults = new }) capacity most after
+  ends-here read next capacity most old new kept after same faults so_far more =
+      ended next capacity most least old new (so_far.came ++ piece) after same faults (more so_far.came so_far.kept) (one-line so_far.came so_far.none)

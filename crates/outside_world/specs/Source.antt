@@ -30,6 +30,6 @@ pub record IsFront (line : List ℕ) (least : ℕ) (kept : List ℕ) : Type 0 wh
 -- what was kept of the next line: nothing, since the source has ended; the whole line; or a front of it, with no fewer bytes than
 -- there was memory for before the call or may be kept at most
 abbrev pub IsRead : LineRead → SourceState → SourceState → ℕ → ℕ → List ℕ → Type 0
-IsRead End old new room most kept = (new ≡ old) × IsAtEnd old.left × (kept ≡ [])
-IsRead Whole old new room most kept = Comes old new kept
-IsRead Part old new room most kept = (line : List ℕ) × Comes old new line × IsFront line (min room most) kept
+IsRead End old new capacity most kept = (new ≡ old) × IsAtEnd old.left × (kept ≡ [])
+IsRead Whole old new capacity most kept = Comes old new kept
+IsRead Part old new capacity most kept = (line : List ℕ) × Comes old new line × IsFront line (min capacity most) kept

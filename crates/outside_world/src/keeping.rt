@@ -9,9 +9,9 @@ use memchr::memchr;
 /// Keeps of a further piece of a line as much as there is memory for, and no more than `most` bytes in all. Once a part alone is kept,
 /// nothing more is.
 pub(crate) fn keep(line: &mut Vec<u8>, piece: &[u8], most: usize, so_far: LineRead) -> LineRead
-    ensures kept { (came : List ℕ) (room : ℕ) → room ≤ vec_capacity line.old
-        → IsKept so_far came (min room most) line.old.items
-        → IsKept result (came ++ piece.now) (min room most) line.new.items }
+    ensures kept { (came : List ℕ) (capacity : ℕ) → capacity ≤ vec_capacity line.old
+        → IsKept so_far came (min capacity most) line.old.items
+        → IsKept result (came ++ piece.now) (min capacity most) line.new.items }
     ensures most { length line.old.items ≤ most → length line.new.items ≤ most }
     ensures capacity { vec_capacity line.old ≤ vec_capacity line.new }
 {
@@ -23,8 +23,8 @@ pub(crate) fn keep(line: &mut Vec<u8>, piece: &[u8], most: usize, so_far: LineRe
 
 /// The same where all that came so far is kept.
 fn keep_more(line: &mut Vec<u8>, piece: &[u8], most: usize) -> LineRead
-    ensures kept { (room : ℕ) → room ≤ vec_capacity line.old
-        → IsKept result (line.old.items ++ piece.now) (min room most) line.new.items }
+    ensures kept { (capacity : ℕ) → capacity ≤ vec_capacity line.old
+        → IsKept result (line.old.items ++ piece.now) (min capacity most) line.new.items }
     ensures most { length line.old.items ≤ most → length line.new.items ≤ most }
     ensures some { result ≢ LineRead.End }
     ensures capacity { vec_capacity line.old ≤ vec_capacity line.new }

@@ -12,7 +12,8 @@ pub enum LineRead {
     End,
     /// The whole line.
     Whole,
-    /// A front of the line, which is longer than what may be kept, or for whose rest there is no memory.
+    /// A front of the line, which is longer than what may be kept, or for whose rest there is no memory. It may also be all of a line
+    /// whose length is just what may be kept.
     Part,
 }
 

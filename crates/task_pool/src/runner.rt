@@ -54,7 +54,7 @@ fn take_all_back<T: Task + Drop, R: Wait>(
     tasks: &mut Vec<T>,
 )
     requires owners { AreOwnersOf slots.now owners.old }
-    requires room { (tasks.old.items ≡ []) × (length slots.now ≤ vec_capacity tasks.old) }
+    requires capacity { (tasks.old.items ≡ []) × (length slots.now ≤ vec_capacity tasks.old) }
     requires laid { AreAllLaid owners.old }
     ensures owners { AreOwnersOf slots.now owners.new × AreEmpty owners.new }
     ensures done { AreTakenBack T.done owners.old tasks.new.items }

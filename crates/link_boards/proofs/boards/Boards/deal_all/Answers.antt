@@ -7,9 +7,9 @@ loop-number-init g c = record {
   table = (search arith, c.requires.table.1);
   dealer = c.requires.dealer;
   left = let first = sum-first c.args.calls.now (let p = c.requires.passes in omega arith) in omega arith;
-  items = c.requires.room.0;
+  items = c.requires.capacity.0;
   count = search arith;
-  room = c.requires.room.1;
+  capacity = c.requires.capacity.1;
 }
 
 pub deal-requires-clause-left : goal.deal-requires-clause-left
@@ -24,7 +24,7 @@ loop-number-preserved g c = let k = c.loop-number.number in let old = c.loop-num
       left = let next = sum-next calls k (let many = c.requires.passes in let below = c.loop-number-test.true in omega arith) in let kept = old.left in let given = e.left in omega arith;
       items = fresh-next c.args.self.now.id calls k c.loop-number.all.items c.push_reserved.new.self.items c.deal.result one p.items old.items e.pass;
       count = (let more = p.len in let count = old.count in omega arith);
-      room = (let kept = p.capacity in let enough = old.room in omega arith);
+      capacity = (let kept = p.capacity in let enough = old.capacity in omega arith);
     }
 
 pub returns : goal.returns
