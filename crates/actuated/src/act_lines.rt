@@ -3,8 +3,7 @@
 ghost use Rattle.std.specs.Prelude.{◌≡◌, ℕ, ◌+◌, ◌<◌, ◌≤◌, IfOk, length, nat_lt};
 ghost use Rattle.std.specs.List.{list_any};
 ghost use Rattle.phase_plan.specs.Phases.{phase_at};
-ghost use Rattle.switch_rules.specs.Bounds.{latest_time};
-ghost use Rattle.switch_rules.specs.Serving.{IsHead, earliest_end};
+ghost use Rattle.switch_rules.specs.{Bounds.latest_time, Serving.IsHead, Serving.earliest_end};
 ghost use Rattle.control_flow.specs.Greens.{AreApart, BeginBy, GoesOn, IsLawful, end_of};
 ghost use Rattle.actuated.specs.Calls as spec;
 ghost use Rattle.actuated.specs.Calls.{act_line, another_calls, held_until};

@@ -2,10 +2,8 @@
 
 ghost use Rattle.std.specs.Prelude.{◌≡◌, ◌≤◌, ℕ, IfOk};
 ghost use Rattle.net_parts.specs.Limits.{most_of_all};
-ghost use Rattle.audit.specs.Audits.{IsClean, IsCleanText};
+ghost use Rattle.audit.specs.{Audits.IsClean, Audits.IsCleanText, LineRuns.sheet_of, SheetTexts.HasShape};
 ghost use Rattle.net_simulator.specs.Sums.{total_arrived};
-ghost use Rattle.audit.specs.LineRuns.{sheet_of};
-ghost use Rattle.audit.specs.SheetTexts.{HasShape};
 ghost use Rattle.actuated.specs.Reports.{act_text};
 
 use super::records::ActRecord;

@@ -2,16 +2,12 @@
 
 ghost use Rattle.std.specs.Prelude.{◌≡◌, ℕ, IfOk};
 ghost use Rattle.arrivals.specs.Amounts.{AreArrivals, arriving_of};
-ghost use Rattle.audit.specs.Audits.{AreLawful, IsClean};
-ghost use Rattle.net_simulator.specs.Counts.{IsBalanced};
-ghost use Rattle.net_simulator.specs.Worlds.{line_in};
+ghost use Rattle.audit.specs.{Audits.AreLawful, Audits.IsClean, LineRuns.sheet_of, SheetTexts.HasShape};
+ghost use Rattle.net_simulator.specs.{Counts.IsBalanced, Worlds.line_in};
 ghost use Rattle.signal_safety.specs.Safe.{IsSafe};
-ghost use Rattle.audit.specs.LineRuns.{sheet_of};
-ghost use Rattle.audit.specs.SheetTexts.{HasShape};
 ghost use Rattle.audit.specs.declared.line_runs.LineRun as spec;
-ghost use Rattle.actuated.specs.ActRuns.{IsActRun, KeepsWaits, ShowsSigns};
+ghost use Rattle.actuated.specs.{ActRuns.IsActRun, ActRuns.KeepsWaits, ActRuns.ShowsSigns, RunsSoFar.HavePlayed};
 ghost use Rattle.actuated.specs.ActSteps as steps;
-ghost use Rattle.actuated.specs.RunsSoFar.{HavePlayed};
 
 use super::act_steps::{act_rounds, act_step};
 use super::records::ActRecord;

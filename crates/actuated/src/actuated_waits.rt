@@ -1,12 +1,9 @@
 //! Waits in runs under actuated control.
 ghost use Rattle.std.specs.Prelude.{ℕ, List};
-ghost use Rattle.actuated.specs.ActRuns.{AllAct, KeepsWaits, first_line, cumulative_by};
-ghost use Rattle.actuated.specs.ActSteps.{act_rounds};
-ghost use Rattle.control_flow.specs.declared.greens.Green.{Green};
-ghost use Rattle.control_flow.specs.declared.greens.Sign.{Sign};
+ghost use Rattle.actuated.specs.{ActRuns.AllAct, ActRuns.KeepsWaits, ActRuns.first_line, ActRuns.cumulative_by, ActSteps.act_rounds};
+ghost use Rattle.control_flow.specs.{declared.greens.Green.Green, declared.greens.Sign.Sign};
 ghost use Rattle.net_parts.specs.Numbers.{Net};
-ghost use Rattle.net_simulator.specs.Flow.{Cumulative, cumulative_under};
-ghost use Rattle.net_simulator.specs.Sums.{end_of_run};
+ghost use Rattle.net_simulator.specs.{Flow.Cumulative, Flow.cumulative_under, Sums.end_of_run};
 ghost use Rattle.road_net.specs.Network.{IsNetwork};
 ghost use Rattle.signal_safety.specs.Rounds.{line_before};
 ghost use Rattle.waits.specs.Discharges.{AreEmptied, AreWholeLines, intergreens_of};

@@ -1,8 +1,7 @@
 //! What calls for a phase of a node, by what the node sensed.
 
 ghost use Rattle.std.specs.Prelude.{◌≡◌, ◌≢◌, ◌<◌, ◌≤◌, AllPairs, length, sum, sum_by};
-ghost use Rattle.net_parts.specs.Limits.{most_of_all};
-ghost use Rattle.net_parts.specs.Outline.{plan_at};
+ghost use Rattle.net_parts.specs.{Limits.most_of_all, Outline.plan_at};
 ghost use Rattle.road_net.specs.Senses.{IsSensedOf, amount};
 ghost use Rattle.actuated.specs.Calls as spec;
 ghost use Rattle.actuated.specs.Calls.{calling, amount_near};

@@ -3,8 +3,7 @@
 ghost use Rattle.std.specs.Prelude.{◌≡◌, ◌≢◌, ◌<◌, ◌≤◌, All, AllPairs, OnOk, length, slice_index, sum_by};
 ghost use Rattle.net_parts.specs.Limits.{most_of_all};
 ghost use Rattle.road_net.specs.Totals.{total};
-ghost use Rattle.actuated.specs.Calls.{calls_by};
-ghost use Rattle.actuated.specs.Rounds.{AreAmounts};
+ghost use Rattle.actuated.specs.{Calls.calls_by, Rounds.AreAmounts};
 
 use road_net::Network;
 use std::alloc::AllocError;

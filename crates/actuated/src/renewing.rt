@@ -1,8 +1,7 @@
 //! How the timelines of the nodes go on when a round begins.
 
 ghost use Rattle.std.specs.Prelude.{◌≡◌, ℕ, ◌<◌, ◌≤◌, IfOk, OnOk, length};
-ghost use Rattle.net_parts.specs.Limits.{most_seconds};
-ghost use Rattle.net_parts.specs.Outline.{plan_at};
+ghost use Rattle.net_parts.specs.{Limits.most_seconds, Outline.plan_at};
 ghost use Rattle.net_simulator.specs.Worlds.{line_in};
 ghost use Rattle.actuated.specs.ActRuns as spec;
 ghost use Rattle.actuated.specs.Rounds.{AreAmounts, AreFirstLines, AreRenewed, IsReady, IsRenewed};

@@ -2,10 +2,8 @@
 
 ghost use Rattle.std.specs.Prelude.{◌≡◌, ℕ, List, length};
 ghost use Rattle.control_flow.specs.declared.greens.Green.{Green};
-ghost use Rattle.net_simulator.specs.Flow.{cumulative_under};
-ghost use Rattle.net_simulator.specs.Worlds.{IsWorldOf, Stands, signs_by};
-ghost use Rattle.actuated.specs.Rounds.{AreAmounts};
-ghost use Rattle.actuated.specs.RunsSoFar.{AreNear};
+ghost use Rattle.net_simulator.specs.{Flow.cumulative_under, Worlds.IsWorldOf, Worlds.Stands, Worlds.signs_by};
+ghost use Rattle.actuated.specs.{Rounds.AreAmounts, RunsSoFar.AreNear};
 
 use net_simulator::World;
 use road_net::Network;

@@ -1,8 +1,7 @@
 //! What enters the links of a network, by second and link.
 ghost use Rattle.std.specs.Prelude.{◌≡◌, ◌+◌, ◌<◌, ◌≤◌, ℕ, drop, length};
 ghost use Rattle.std.specs.List.Sorted.{IsNonDecreasingBy, IsPartitionPoint};
-ghost use Rattle.arrivals.specs.Amounts.{AreRising, amount_to};
-ghost use Rattle.arrivals.specs.declared.rows.ArrivalRow.{ArrivalRow};
+ghost use Rattle.arrivals.specs.{Amounts.AreRising, Amounts.amount_to, declared.rows.ArrivalRow.ArrivalRow};
 
 use crate::checks::check_all;
 use crate::joining::{join, order_of};
@@ -40,9 +39,7 @@ impl Arrivals {
     ghost use Rattle.std.specs.Prelude.{◌≡◌, ◌≢◌, ◌<◌, ◌≤◌, ◌==◌, ℕ, All, IfOk, IfErr, filter, sum_by};
     ghost use Rattle.net_parts.specs.Limits.{most_of_all};
     ghost use Rattle.road_net.specs.Totals.{total};
-    ghost use Rattle.arrivals.specs.Amounts.{Amounts, AreArrivals, AreArrivalsOf, AreKept, AreRising, amount_to, arriving_of};
-    ghost use Rattle.arrivals.specs.Faults.{IsRowFault};
-    ghost use Rattle.arrivals.specs.Rows.{amount_of, arriving_by};
+    ghost use Rattle.arrivals.specs.{Amounts.Amounts, Amounts.AreArrivals, Amounts.AreArrivalsOf, Amounts.AreKept, Amounts.AreRising, Amounts.amount_to, Amounts.arriving_of, Faults.IsRowFault, Rows.amount_of, Rows.arriving_by};
     ghost use Rattle.arrivals.specs.declared.rows.ArrivalRow.{ArrivalRow};
 
     /// The arrivals of these rows, which may stand in any order; rows of one link and second are added.

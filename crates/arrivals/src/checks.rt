@@ -2,9 +2,7 @@
 ghost use Rattle.std.specs.Prelude.{◌≡◌, ◌↔◌, ◌+◌, ◌≤◌, IfErr, IfOk, IsTrue, OnOk, sum_by};
 ghost use Rattle.net_parts.specs.Limits.{most_of_all};
 ghost use Rattle.road_net.specs.Network.{IsNetwork};
-ghost use Rattle.arrivals.specs.Faults.{IsRowFault};
-ghost use Rattle.arrivals.specs.Rows.{IsSource, HasBounds, AreRows};
-ghost use Rattle.arrivals.specs.Stored.{IsRefused, IsTaken};
+ghost use Rattle.arrivals.specs.{Faults.IsRowFault, Rows.IsSource, Rows.HasBounds, Rows.AreRows, Stored.IsRefused, Stored.IsTaken};
 
 use crate::rows::{ArrivalRow, RowFault};
 use net_parts::MOST_OF_ALL;

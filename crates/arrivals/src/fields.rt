@@ -2,8 +2,7 @@
 ghost use Rattle.std.specs.Prelude.{◌≡◌, ◌≢◌, [], ◌∷◌, None, Some, MatchOption, length};
 ghost use Rattle.csv.specs.Records.{fields_of};
 ghost use Rattle.road_net.specs.Network.{IsNetwork};
-ghost use Rattle.arrivals.specs.Records.{parse};
-ghost use Rattle.arrivals.specs.Stored.{Reads};
+ghost use Rattle.arrivals.specs.{Records.parse, Stored.Reads};
 
 use crate::rows::{ArrivalRow, RowFault};
 use csv::ByteRecord;

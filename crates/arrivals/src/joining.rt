@@ -2,11 +2,8 @@
 ghost use Rattle.std.specs.Prelude.{◌≡◌, ◌≢◌, ℕ, ◌+◌, ◌-◌, ◌≤◌, ◌<◌, ◌^◌, All, AllPairs, IfOk, IsFalse, IsTrue, OnOk, length, slice_index_or, sum_by};
 ghost use Rattle.std.specs.List.Sorted.{IsNonDecreasingBy};
 ghost use Rattle.net_parts.specs.Limits.{most_of_all};
-ghost use Rattle.arrivals.specs.Amounts.{AreKept, IsBefore};
-ghost use Rattle.arrivals.specs.Rows.{amount_of, arriving_by};
+ghost use Rattle.arrivals.specs.{Amounts.AreKept, Amounts.IsBefore, Rows.amount_of, Rows.arriving_by, Stored.EndsBy, Stored.EndsWith, Stored.IsJoined, declared.rows.ArrivalRow.ArrivalRow};
 ghost use Rattle.arrivals.specs.Stored as stored;
-ghost use Rattle.arrivals.specs.Stored.{EndsBy, EndsWith, IsJoined};
-ghost use Rattle.arrivals.specs.declared.rows.ArrivalRow.{ArrivalRow};
 
 use crate::rows::ArrivalRow;
 use std::alloc::{AllocError, Global};

@@ -30,9 +30,7 @@ impl Model for RowList {
 
 impl RowList {
     ghost use Rattle.std.specs.Prelude.{◌≡◌, ◌++◌, ◌∷◌, ℕ, [], IfErr, IfOk, OnOk, sum_by};
-    ghost use Rattle.arrivals.specs.Amounts.{AreKept, arriving_of};
-    ghost use Rattle.arrivals.specs.Rows.{amount_of, arriving_by};
-    ghost use Rattle.arrivals.specs.Stored.{IsRefused, IsTaken};
+    ghost use Rattle.arrivals.specs.{Amounts.AreKept, Amounts.arriving_of, Rows.amount_of, Rows.arriving_by, Stored.IsRefused, Stored.IsTaken};
 
     /// No rows.
     pub(crate) fn new(alloc: Global) -> RowList

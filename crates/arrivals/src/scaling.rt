@@ -1,13 +1,9 @@
 //! Arrivals scaled by a factor, exactly, by cumulative rounding.
 ghost use Rattle.std.specs.Prelude.{◌≡◌, ◌+◌, ◌<◌, ◌≤◌, IfOk, OnOk, length, slice_index, slice_set};
 ghost use Rattle.std.specs.Result.{IsErrOf};
-ghost use Rattle.net_parts.specs.Limits.{most_of_all};
-ghost use Rattle.net_parts.specs.Outline.{known_seconds};
-ghost use Rattle.arrivals.specs.Amounts.{AreArrivals, IsEntry, arriving_of};
-ghost use Rattle.arrivals.specs.Rows.{IsSource};
-ghost use Rattle.arrivals.specs.ScaledRows.{Brings, HaveCome, next_share};
+ghost use Rattle.net_parts.specs.{Limits.most_of_all, Outline.known_seconds};
+ghost use Rattle.arrivals.specs.{Amounts.AreArrivals, Amounts.IsEntry, Amounts.arriving_of, Rows.IsSource, ScaledRows.Brings, ScaledRows.HaveCome, ScaledRows.next_share, Scaling.IsScaled, Scaling.greatest_factor, Scaling.scaled_whole};
 ghost use Rattle.arrivals.specs.Scaling as spec;
-ghost use Rattle.arrivals.specs.Scaling.{IsScaled, greatest_factor, scaled_whole};
 
 use crate::checks::MOST_OF_ROW;
 use crate::{ArrivalRow, Arrivals, RowFault};

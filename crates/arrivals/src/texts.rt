@@ -1,7 +1,6 @@
 //! The file of arrivals.
 ghost use Rattle.std.specs.Prelude.{◌≢◌, IfOk, IfErr};
-ghost use Rattle.arrivals.specs.Amounts.{Amounts, AreArrivals};
-ghost use Rattle.arrivals.specs.Texts.{IsArrivalText, IsTextFault};
+ghost use Rattle.arrivals.specs.{Amounts.Amounts, Amounts.AreArrivals, Texts.IsArrivalText, Texts.IsTextFault};
 
 use crate::amounts::Arrivals;
 use crate::fields::read_row;

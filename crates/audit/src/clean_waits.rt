@@ -1,10 +1,7 @@
 //! Waits under the greens of a clean sheet.
 ghost use Rattle.std.specs.Prelude.{ℕ, ◌≤◌};
-ghost use Rattle.audit.specs.Audits.{IsClean};
-ghost use Rattle.audit.specs.CleanWaits.{AllShowFirst};
-ghost use Rattle.audit.specs.declared.sheet.Sheet.{Sheet};
-ghost use Rattle.net_simulator.specs.Shown.{cumulative_of_lines};
-ghost use Rattle.net_simulator.specs.Sums.{end_of_run};
+ghost use Rattle.audit.specs.{Audits.IsClean, CleanWaits.AllShowFirst, declared.sheet.Sheet.Sheet};
+ghost use Rattle.net_simulator.specs.{Shown.cumulative_of_lines, Sums.end_of_run};
 ghost use Rattle.waits.specs.Discharges.{AreEmptied, AreWaitsWithin, wait_bounds};
 
 use road_net::{Network, law_of_network};

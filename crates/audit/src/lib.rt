@@ -19,9 +19,8 @@ mod sheet_texts;
 
 ghost use Rattle.std.specs.Prelude.{◌≡◌, ◌↔◌, ◌<◌, ◌^◌, All, IfOk, length};
 ghost use Rattle.arrivals.specs.Amounts.{AreArrivals, arriving_of};
-ghost use Rattle.audit.specs.Audits.{IfBad, IfClean, IfUnclean, IsClean, IsWhy};
+ghost use Rattle.audit.specs.{Audits.IfBad, Audits.IfClean, Audits.IfUnclean, Audits.IsClean, Audits.IsWhy, SheetTexts.HasShape};
 ghost use Rattle.net_simulator.specs.Worlds.{line_in};
-ghost use Rattle.audit.specs.SheetTexts.{HasShape};
 ghost use Rattle.signal_safety.specs.Safe.{IsSafe};
 
 use arrivals::Arrivals;

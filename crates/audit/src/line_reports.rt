@@ -2,10 +2,8 @@
 
 ghost use Rattle.std.specs.Prelude.{◌≡◌, ◌≤◌, ℕ, IfOk};
 ghost use Rattle.net_parts.specs.Limits.{most_of_all};
-ghost use Rattle.audit.specs.Audits.{IsClean, IsCleanText};
+ghost use Rattle.audit.specs.{Audits.IsClean, Audits.IsCleanText, LineReports.cut_at, LineReports.line_text, SheetTexts.HasShape, SheetTexts.IsSheetText};
 ghost use Rattle.net_simulator.specs.Sums.{end_of_run, total_arrived};
-ghost use Rattle.audit.specs.SheetTexts.{HasShape, IsSheetText};
-ghost use Rattle.audit.specs.LineReports.{cut_at, line_text};
 
 use control_flow::greens::Timeline;
 use net_simulator::{LinkTotals, Totals};

@@ -3,12 +3,9 @@
 ghost use Rattle.std.specs.Prelude.{◌≡◌, IfOk, length, map};
 ghost use Rattle.std.specs.List.{range_with_len};
 ghost use Rattle.arrivals.specs.Amounts.{AreArrivals, arriving_of};
-ghost use Rattle.audit.specs.Audits.{AreLawful, IsClean};
-ghost use Rattle.net_simulator.specs.Counts.{IsBalanced, counts_at};
-ghost use Rattle.net_simulator.specs.Worlds.{line_in};
+ghost use Rattle.audit.specs.{Audits.AreLawful, Audits.IsClean, LineRuns.sheet_of, LineRuns.shown_sheet, SheetTexts.HasShape};
+ghost use Rattle.net_simulator.specs.{Counts.IsBalanced, Counts.counts_at, Worlds.line_in};
 ghost use Rattle.signal_safety.specs.Safe.{IsSafe};
-ghost use Rattle.audit.specs.SheetTexts.{HasShape};
-ghost use Rattle.audit.specs.LineRuns.{sheet_of, shown_sheet};
 
 use arrivals::Arrivals;
 use control_flow::greens::Timeline;

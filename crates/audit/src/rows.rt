@@ -1,8 +1,7 @@
 //! The first row of a sheet's lines that is against the law.
 
 ghost use Rattle.std.specs.Prelude.{◌≡◌, ℕ, ◌<◌, ◌^◌, All, IfNone, IfSome, length};
-ghost use Rattle.audit.specs.Audits.{AllRows, AreLawful, FollowsAt, IsFirstRow, IsGreenAt, IsWhy};
-ghost use Rattle.audit.specs.SheetTexts.{HasShape};
+ghost use Rattle.audit.specs.{Audits.AllRows, Audits.AreLawful, Audits.FollowsAt, Audits.IsFirstRow, Audits.IsGreenAt, Audits.IsWhy, SheetTexts.HasShape};
 ghost use Rattle.foundation.specs.Firsts.{FromOne, IsFirstWithout};
 ghost use Rattle.road_net.specs.Network.{IsNetwork};
 

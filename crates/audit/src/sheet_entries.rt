@@ -1,9 +1,8 @@
 //! What the records of a report tell.
 ghost use Rattle.std.specs.Prelude.{◌≡◌, ◌∷◌, None, Some, MatchOption, codes};
 ghost use Rattle.csv.specs.Records.{fields_of};
-ghost use Rattle.audit.specs.SheetEntries.{in_words};
+ghost use Rattle.audit.specs.{SheetEntries.in_words, SheetRecords.parse_counts, SheetRecords.parse_green, SheetRecords.parse_sums, SheetRecords.parse};
 ghost use Rattle.audit.specs.SheetRecords as records;
-ghost use Rattle.audit.specs.SheetRecords.{parse_counts, parse_green, parse_sums, parse};
 
 use crate::sheet_fields::{field_u8, field_u32, field_u64};
 use control_flow::greens::Green;

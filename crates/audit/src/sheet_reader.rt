@@ -2,10 +2,8 @@
 ghost use Rattle.std.specs.Prelude.{◌≡◌, ◌≢◌, ◌<◌, ◌++◌, ◌∷◌, [], ℕ, List, IfErr, IfNone, IfOk, IfSome, OnOk, length, slice_index_or};
 ghost use Rattle.net_parts.specs.Numbers.{Net};
 ghost use Rattle.road_net.specs.Network.{IsNetwork};
-ghost use Rattle.audit.specs.SheetEntries.{HasCome, IsMore, IsRecordFault, in_words};
-ghost use Rattle.audit.specs.SheetFaults.{IsEarly};
+ghost use Rattle.audit.specs.{SheetEntries.HasCome, SheetEntries.IsMore, SheetEntries.IsRecordFault, SheetEntries.in_words, SheetFaults.IsEarly, SheetRecords.Counts, SheetRecords.Shows, SheetRecords.Sums, SheetRecords.SheetRecord};
 ghost use Rattle.audit.specs.SheetTexts.{IsSheetOf};
-ghost use Rattle.audit.specs.SheetRecords.{Counts, Shows, Sums, SheetRecord};
 
 use crate::sheet::Sheet;
 use crate::sheet_entries::Entry;

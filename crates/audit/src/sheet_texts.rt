@@ -1,7 +1,6 @@
 //! The file of a report, read as a sheet.
 ghost use Rattle.std.specs.Prelude.{◌≢◌, ◌<◌, ◌^◌, All, IfErr, IfOk, length};
-ghost use Rattle.audit.specs.SheetFaults.{IsTextFault};
-ghost use Rattle.audit.specs.SheetTexts.{HasShape, IsSheetText};
+ghost use Rattle.audit.specs.{SheetFaults.IsTextFault, SheetTexts.HasShape, SheetTexts.IsSheetText};
 ghost use Rattle.audit.specs.declared.sheet.Sheet as spec;
 
 use crate::sheet::Sheet;

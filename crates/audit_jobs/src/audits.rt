@@ -5,9 +5,7 @@ ghost use Rattle.arrivals.specs.Amounts.{AreArrivals, arriving_of};
 ghost use Rattle.net_parts.specs.Outline.{node_name_at};
 ghost use Rattle.audit.specs.SheetTexts.{HasShape};
 ghost use Rattle.command_words.specs.Calls.{Audit};
-ghost use Rattle.commands.specs.Ending.{IsMadeOf, Makes};
-ghost use Rattle.commands.specs.Outcome.{Outcome};
-ghost use Rattle.commands.specs.Verdicts.{finding_text, unclean_line};
+ghost use Rattle.commands.specs.{Ending.IsMadeOf, Ending.Makes, Outcome.Outcome, Verdicts.finding_text, Verdicts.unclean_line};
 ghost use Rattle.audit_jobs.specs.Findings.{NamesPart};
 
 use arrivals::Arrivals;

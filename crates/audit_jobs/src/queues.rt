@@ -3,8 +3,7 @@ ghost use Rattle.std.specs.Prelude.{◌≡◌, ◌<◌, ◌^◌, List, ℕ, All,
 ghost use Rattle.arrivals.specs.Amounts.{AreArrivals, arriving_of};
 ghost use Rattle.audit.specs.SheetTexts.{HasShape};
 ghost use Rattle.command_words.specs.Calls.{Queues};
-ghost use Rattle.commands.specs.Ending.{IsMadeOf, Makes};
-ghost use Rattle.commands.specs.Outcome.{Outcome};
+ghost use Rattle.commands.specs.{Ending.IsMadeOf, Ending.Makes, Outcome.Outcome};
 
 use super::audits::unclean_line;
 use arrivals::Arrivals;

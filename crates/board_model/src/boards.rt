@@ -89,8 +89,7 @@ pub struct BoardLog {
 }
 
 impl Model for BoardLog {
-    ghost use Rattle.board_model.specs.Boards.{Log};
-    ghost use Rattle.board_model.specs.Stored.{IsStored};
+    ghost use Rattle.board_model.specs.{Boards.Log, Stored.IsStored};
     ghost use Rattle.std.specs.Prelude.{◌-◌, vec_len, vec_capacity};
 
     ghost Value = { Log };
@@ -104,8 +103,7 @@ impl CrossesThreads for BoardLog {}
 
 impl BoardLog {
     ghost use Rattle.std.specs.Prelude.{◌≡◌, ◌<◌, ◌≤◌, ◌+◌, [], IfOk, IfErr, IsOk, OnOk, OnErr};
-    ghost use Rattle.board_model.specs.Forecasts.{IsAboveLast};
-    ghost use Rattle.board_model.specs.Boards.{IsLegal, most_versions, stamps, version_of, newest, after_read, after_publish};
+    ghost use Rattle.board_model.specs.{Boards.IsLegal, Boards.most_versions, Boards.stamps, Boards.version_of, Boards.newest, Boards.after_read, Boards.after_publish, Forecasts.IsAboveLast};
 
     /// The log of no event. It keeps the allocator, of which its methods take their memory.
     ///

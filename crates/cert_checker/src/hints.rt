@@ -17,8 +17,7 @@ pub(crate) struct Hints {
 
 impl Hints {
     ghost use Rattle.std.specs.Prelude.{◌↔◌, ◌^◌, ◌<◌, ◌≤◌, IsTrue, length};
-    ghost use Rattle.dp_certificate.specs.Certificates.{AreRising};
-    ghost use Rattle.dp_certificate.specs.Proves.{HasEntry, key_of_entry};
+    ghost use Rattle.dp_certificate.specs.{Certificates.AreRising, Proves.HasEntry, Proves.key_of_entry};
 
     /// No places are known.
     pub(crate) fn new() -> Hints {

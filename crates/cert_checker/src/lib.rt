@@ -7,10 +7,8 @@ mod search;
 mod walk;
 
 ghost use Rattle.std.specs.Prelude.{◌≡◌, ◌+◌, ◌*◌, ◌≤◌, ◌↔◌, IfNone, IfSome, IsTrue, length};
-ghost use Rattle.schedule_meaning.specs.Best.{IsBest, IsLeast};
-ghost use Rattle.schedule_meaning.specs.declared.planners.Answer.{Answer};
-ghost use Rattle.dp_certificate.specs.Proves.{HasRoot, IsPlanned, Proves};
-ghost use Rattle.dp_certificate.specs.Numbers.{answered_delay, sequence_of};
+ghost use Rattle.schedule_meaning.specs.{Best.IsBest, Best.IsLeast, declared.planners.Answer.Answer};
+ghost use Rattle.dp_certificate.specs.{Numbers.answered_delay, Numbers.sequence_of, Proves.HasRoot, Proves.IsPlanned, Proves.Proves};
 ghost use Rattle.cert_checker.specs.Verdicts.{IfRejected, IsWhy};
 
 use dp_certificate::{Certificate, Entry};

@@ -1,8 +1,7 @@
 //! Looks for an entry by its key.
 
 ghost use Rattle.std.specs.Prelude.{◌≡◌, ◌^◌, ◌<◌, ◌≤◌, ◌↔◌, IsTrue, length};
-ghost use Rattle.dp_certificate.specs.Certificates.{AreRising};
-ghost use Rattle.dp_certificate.specs.Proves.{HasEntry, key_of_entry};
+ghost use Rattle.dp_certificate.specs.{Certificates.AreRising, Proves.HasEntry, Proves.key_of_entry};
 ghost use Rattle.cert_checker.specs.Places.{StandsAt};
 
 use dp_certificate::{Entry, place_of};

@@ -4,12 +4,9 @@ ghost use Rattle.std.specs.Prelude.{◌≡◌, ℕ, ◌+◌, ◌-◌, ◌*◌, �
 ghost use Rattle.std.specs.Option.{option_map};
 ghost use Rattle.switch_rules.specs.Serving.{IsCluster};
 ghost use Rattle.schedule_meaning.specs.Instances.{list_at};
-ghost use Rattle.dp_certificate.specs.Prefixes.{stage_after};
-ghost use Rattle.dp_certificate.specs.Certificates.{IsCertificate, IsEntry, entry_at};
-ghost use Rattle.dp_certificate.specs.NextEntry.{IsNext, stage_of_next};
-ghost use Rattle.dp_certificate.specs.Proves.{IsClosed, IsEnded, IsNoCheaper, IsTooDear, stage_of_entry};
-ghost use Rattle.cert_checker.specs.Places.{IsMet};
-ghost use Rattle.cert_checker.specs.Verdicts.{IsFirstNot, IsOpenAt};
+ghost use Rattle.dp_certificate.specs.{Certificates.IsCertificate, Certificates.IsEntry, Certificates.entry_at, NextEntry.IsNext, NextEntry.stage_of_next, Prefixes.stage_after, Proves.IsClosed, Proves.IsEnded, Proves.IsNoCheaper};
+ghost use Rattle.dp_certificate.specs.{Proves.IsTooDear, Proves.stage_of_entry};
+ghost use Rattle.cert_checker.specs.{Places.IsMet, Verdicts.IsFirstNot, Verdicts.IsOpenAt};
 
 use super::hints::Hints;
 use dp_certificate::{Certificate, Entry, is_all_served, next_after, rest_of};

@@ -2,10 +2,9 @@
 
 ghost use Rattle.std.specs.Prelude.{◌≡◌, ◌+◌, ◌^◌, ◌<◌, ◌≤◌, length, take, drop, IfOk, IfSome, None};
 ghost use Rattle.std.specs.Option.{option_map};
-ghost use Rattle.text_lines.specs.Fields.{field_at};
+ghost use Rattle.text_lines.specs.{Fields.field_at, Many.many_at};
 ghost use Rattle.instance_form.specs.Lines.{seen};
 ghost use Rattle.certificate_form.specs.Lines.{IsFrontText, entry_after_at, count_at, entry_line_at, front_at};
-ghost use Rattle.text_lines.specs.Many.{many_at};
 
 use dp_certificate::Entry;
 use std::alloc::{AllocError, Global};

@@ -2,14 +2,10 @@
 
 ghost use Rattle.std.specs.Prelude.{◌≡◌, ◌+◌, ◌^◌, ◌<◌, ◌≤◌, length, Bool, IfErr, IfOk, MatchResult};
 ghost use Rattle.instance_form.specs.Answers as form;
-ghost use Rattle.instance_form.specs.Lines.{seen};
-ghost use Rattle.instance_form.specs.Reading.{Gives};
-ghost use Rattle.certificate_form.specs.Answers.{IsFormText, IsTextFault, IsOutOfMemory, claim_of_lines};
-ghost use Rattle.certificate_form.specs.CertificateText.{HasText, certificate_text};
-ghost use Rattle.dp_certificate.specs.Certificates.{Claim, IsCertificate};
-ghost use Rattle.dp_certificate.specs.Numbers.{IsShort};
-ghost use Rattle.certificate_form.specs.Reading.{answer_at, end_at, plan_at, sequence_at, tail_at};
-ghost use Rattle.certificate_form.specs.TextFaults.{IsLineFault};
+ghost use Rattle.instance_form.specs.{Lines.seen, Reading.Gives};
+ghost use Rattle.certificate_form.specs.{Answers.IsFormText, Answers.IsTextFault, Answers.IsOutOfMemory, Answers.claim_of_lines, CertificateText.HasText, CertificateText.certificate_text, Reading.answer_at, Reading.end_at, Reading.plan_at};
+ghost use Rattle.certificate_form.specs.{Reading.sequence_at, Reading.tail_at, TextFaults.IsLineFault};
+ghost use Rattle.dp_certificate.specs.{Certificates.Claim, Certificates.IsCertificate, Numbers.IsShort};
 
 use crate::lines::{entry_lines, spaced_numbers};
 use dp_certificate::{CertFault, Certificate, Entry};

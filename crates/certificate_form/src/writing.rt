@@ -4,12 +4,10 @@ ghost use Rattle.std.specs.Prelude.{[], ◌≡◌, ◌+◌, ◌*◌, ◌++◌, �
 ghost use Rattle.std.specs.List.{flat_map};
 ghost use Rattle.instance_form.specs.InstanceText.{instance_text};
 ghost use Rattle.instance_form.specs.InstanceText as form;
-ghost use Rattle.dp_certificate.specs.Certificates.{IsCertificate};
-ghost use Rattle.dp_certificate.specs.Numbers.{sequence_of};
-ghost use Rattle.certificate_form.specs.Answers.{IsCertificateText};
-ghost use Rattle.certificate_form.specs.Lengths.{text_bytes};
+ghost use Rattle.dp_certificate.specs.{Certificates.IsCertificate, Numbers.sequence_of};
+ghost use Rattle.certificate_form.specs.{Answers.IsCertificateText, CertificateText.HasText, CertificateText.IsWritableAnswer, CertificateText.after_space, CertificateText.answer_line, CertificateText.certificate_text};
+ghost use Rattle.certificate_form.specs.{CertificateText.entry_back, CertificateText.entry_front, CertificateText.entry_line, Lengths.text_bytes};
 ghost use Rattle.outside_world.specs.Sink.{Breaks, Gains};
-ghost use Rattle.certificate_form.specs.CertificateText.{HasText, IsWritableAnswer, after_space, answer_line, certificate_text, entry_back, entry_front, entry_line};
 
 use dp_certificate::{Certificate, Entry};
 use outside_world::{Failed, Sink};

@@ -1,10 +1,8 @@
 //! How what comes is cut into platoons.
 ghost use Rattle.std.specs.Prelude.{◌≡◌, ◌+◌, ◌<◌, ◌≤◌, ◌^◌, ℕ, All, IfOk, IfNone, IfSome, length, replicate, slice_index, sum};
 ghost use Rattle.net_parts.specs.Limits.{most_look, most_sat, most_seconds};
-ghost use Rattle.clusters.specs.Cuts.{filled, first_of};
-ghost use Rattle.clusters.specs.Platoons.{ArePlatoonsBy, platoon_within, together};
-ghost use Rattle.clusters.specs.Steps.{AreOfLinks, AreSpans, AreStreams, IsAge, IsEmpty, IsNext, IsRunUpTo, IsClosed, span_at};
-ghost use Rattle.clusters.specs.Options.{aged_load_of};
+ghost use Rattle.clusters.specs.{Cuts.filled, Cuts.first_of, Options.aged_load_of, Platoons.ArePlatoonsBy, Platoons.platoon_within, Platoons.together, Steps.AreOfLinks, Steps.AreSpans, Steps.AreStreams, Steps.IsAge, Steps.IsEmpty};
+ghost use Rattle.clusters.specs.{Steps.IsNext, Steps.IsRunUpTo, Steps.IsClosed, Steps.span_at};
 
 use crate::loads::load_on;
 use crate::parts::{Parts, PhaseStreams};

@@ -1,12 +1,9 @@
 //! What reaches the end of a link in the seconds that a planning looks ahead, and what leaves there.
 ghost use Rattle.std.specs.Prelude.{◌≡◌, ◌+◌, ◌-◌, ◌*◌, ◌++◌, replicate, ◌<◌, ◌≤◌, ◌^◌, ℕ, nat_lt, ◌==◌, find, option_copied, if◌then◌else◌, All, IfOk, length, slice_index, sum, sum_by, map};
-ghost use Rattle.net_parts.specs.Limits.{most_look, most_of_all, most_seconds, most_travel};
+ghost use Rattle.net_parts.specs.{Limits.most_look, Limits.most_of_all, Limits.most_seconds, Limits.most_travel, Outline.link_at};
 ghost use Rattle.board_model.specs.Forecasts.{IsForecast, amount_at};
-ghost use Rattle.net_parts.specs.Outline.{link_at};
 ghost use Rattle.road_net.specs.Senses.{amount};
-ghost use Rattle.clusters.specs.Steps.{IsSeen};
-ghost use Rattle.clusters.specs.Inflow.{inflow, leaving, sense_of, heard_forecast};
-ghost use Rattle.clusters.specs.Platoons.{streams_of};
+ghost use Rattle.clusters.specs.{Inflow.inflow, Inflow.leaving, Inflow.sense_of, Inflow.heard_forecast, Platoons.streams_of, Steps.IsSeen};
 
 use crate::parts::PhaseStreams;
 use crate::smoothing::smooth_in_place;

@@ -1,11 +1,7 @@
 //! What platoons count: their loads.
 ghost use Rattle.std.specs.Prelude.{◌≡◌, ◌+◌, ◌*◌, ◌/◌, ◌<◌, ◌≤◌, ℕ, All, Some, length, min, sum, sum_by};
-ghost use Rattle.net_parts.specs.Limits.{most_sat};
-ghost use Rattle.net_parts.specs.Outline.{link_at};
-ghost use Rattle.clusters.specs.Inflow.{sense_of};
-ghost use Rattle.clusters.specs.Steps.{IsAge};
-ghost use Rattle.clusters.specs.Sound.{AreSpacedClusters, clusters_of};
-ghost use Rattle.clusters.specs.Options.{amount_load, first_with_hold};
+ghost use Rattle.net_parts.specs.{Limits.most_sat, Outline.link_at};
+ghost use Rattle.clusters.specs.{Inflow.sense_of, Options.amount_load, Options.first_with_hold, Sound.AreSpacedClusters, Sound.clusters_of, Steps.IsAge};
 ghost use Rattle.switch_rules.specs.Bounds.{greatest_size, greatest_weight};
 
 use crate::inflows::stood_on;

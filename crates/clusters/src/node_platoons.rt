@@ -1,15 +1,9 @@
 //! The platoons that a node expects.
 ghost use Rattle.std.specs.Prelude.{◌≡◌, ◌==◌, ◌&&◌, ℕ, ◌<◌, ◌≤◌, List, Some, None, All, IfOk, IfSome, length, if◌then◌else◌};
-ghost use Rattle.net_parts.specs.Numbers.{Net};
-ghost use Rattle.net_parts.specs.Outline.{phase_links_at, plan_at};
-ghost use Rattle.road_net.specs.Network.{IsNetwork};
-ghost use Rattle.road_net.specs.Senses.{IsSensedOf};
-ghost use Rattle.clusters.specs.Inflow.{IsHeardOf};
-ghost use Rattle.clusters.specs.Platoons.{ArePlatoonsOf, streams_of};
-ghost use Rattle.clusters.specs.Sound.{AreOfNode, AreSpacedClusters, cluster_lists, clusters_of};
-ghost use Rattle.clusters.specs.Steps.{ArePlatoonsAsked, IsAge};
-ghost use Rattle.clusters.specs.Options.{AreExpected, AreExpectedIn, AsksNothing, rate_of, with_hold};
-ghost use Rattle.clusters.specs.Windows.{IsRising};
+ghost use Rattle.net_parts.specs.{Numbers.Net, Outline.phase_links_at, Outline.plan_at};
+ghost use Rattle.road_net.specs.{Network.IsNetwork, Senses.IsSensedOf};
+ghost use Rattle.clusters.specs.{Inflow.IsHeardOf, Options.AreExpected, Options.AreExpectedIn, Options.AsksNothing, Options.rate_of, Options.with_hold, Platoons.ArePlatoonsOf, Platoons.streams_of, Sound.AreOfNode, Sound.AreSpacedClusters};
+ghost use Rattle.clusters.specs.{Sound.cluster_lists, Sound.clusters_of, Steps.ArePlatoonsAsked, Steps.IsAge, Windows.IsRising};
 ghost use Rattle.switch_rules.specs.Serving.{IsHead};
 
 use crate::cuts::{Cutting, gather_platoons, together};

@@ -65,8 +65,7 @@ pub struct Parts {
 
 impl Model for Parts {
     ghost use Rattle.std.specs.Prelude.{◌≤◌, List, map};
-    ghost use Rattle.clusters.specs.declared.vehicle_groups.Part.{Part};
-    ghost use Rattle.clusters.specs.Streams.{part_of, AreAsLong};
+    ghost use Rattle.clusters.specs.{Streams.part_of, Streams.AreAsLong, declared.vehicle_groups.Part.Part};
 
     ghost Value = { List Part };
 

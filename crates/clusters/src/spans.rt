@@ -1,8 +1,7 @@
 //! How many seconds the runs of a standing phase may span.
 ghost use Rattle.std.specs.Prelude.{◌≡◌, ◌-◌, ◌<◌, ◌≤◌, ℕ, IfSome, length};
 ghost use Rattle.net_parts.specs.Limits.{most_look, most_seconds};
-ghost use Rattle.clusters.specs.Steps.{AreSpans, span_at, span_with};
-ghost use Rattle.clusters.specs.Options.{span_in_green};
+ghost use Rattle.clusters.specs.{Options.span_in_green, Steps.AreSpans, Steps.span_at, Steps.span_with};
 ghost use Rattle.phase_plan.specs.Phases.{IsPhase};
 
 use crate::cuts::first_filled;

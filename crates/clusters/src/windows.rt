@@ -1,11 +1,8 @@
 //! The window: the platoons that one planning takes up.
 ghost use Rattle.std.specs.Prelude.{◌≡◌, ◌+◌, ◌<◌, ◌≤◌, ℕ, All, IfOk, length, replicate, take, slice_index, sum, map, vec_len};
-ghost use Rattle.net_parts.specs.Limits.{most_look};
-ghost use Rattle.net_parts.specs.Numbers.{Net};
-ghost use Rattle.clusters.specs.Platoons.{platoons_at};
-ghost use Rattle.clusters.specs.Sound.{AreOfNode, ArePlannable, AreSpacedClusters, cluster_lists};
-ghost use Rattle.clusters.specs.Taking.{AreFronts, IsEarlier, IsFirstOf, IsNextArrival};
-ghost use Rattle.clusters.specs.Windows.{IsLongest, IsRising, IsWindow, counts_of};
+ghost use Rattle.net_parts.specs.{Limits.most_look, Numbers.Net};
+ghost use Rattle.clusters.specs.{Platoons.platoons_at, Sound.AreOfNode, Sound.ArePlannable, Sound.AreSpacedClusters, Sound.cluster_lists, Taking.AreFronts, Taking.IsEarlier, Taking.IsFirstOf, Taking.IsNextArrival, Windows.IsLongest};
+ghost use Rattle.clusters.specs.{Windows.IsRising, Windows.IsWindow, Windows.counts_of};
 
 use crate::vehicle_groups::{Platoon, Window};
 use foundation::items::Items;

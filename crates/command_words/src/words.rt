@@ -1,10 +1,8 @@
 //! The commands, and the words that each has.
 ghost use Rattle.std.specs.Prelude.{◌≡◌, ◌≢◌, ◌^◌, ◌<◌, ◌≤◌, ◌↔◌, ℕ, List, [], ◌∷◌, IfSome, IfNone, IsTrue, codes};
 ghost use Rattle.std.specs.Fmt.{decimal};
-ghost use Rattle.scenario_gen.specs.Grids.{AreRounds};
-ghost use Rattle.scenario_gen.specs.Layout.{IsSide};
-ghost use Rattle.command_words.specs.Calls.{Call, IsCall, IsOfControllers, IsOverNetwork, call_of};
-ghost use Rattle.command_words.specs.Factors.{AreFactors};
+ghost use Rattle.scenario_gen.specs.{Grids.AreRounds, Layout.IsSide};
+ghost use Rattle.command_words.specs.{Calls.Call, Calls.IsCall, Calls.IsOfControllers, Calls.IsOverNetwork, Calls.call_of, Factors.AreFactors};
 
 use foundation::text::Text;
 use text_lines::{number_u32, number_u64, number_within};

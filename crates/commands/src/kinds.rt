@@ -177,8 +177,7 @@ impl FromText for FixedPlan {
 }
 
 impl FromText for RoundState {
-    ghost use Rattle.round_states.specs.States.{IsStateOf};
-    ghost use Rattle.round_states.specs.declared.asked.Asked.TheVariants.{AllNodes};
+    ghost use Rattle.round_states.specs.{States.IsStateOf, declared.asked.Asked.TheVariants.AllNodes};
     ghost use Rattle.commands.specs.Kinds.{StateText};
 
     type Over = Network;
@@ -215,8 +214,7 @@ pub struct NetworkNode {
 }
 
 impl FromText for NodeState {
-    ghost use Rattle.round_states.specs.States.{IsStateOf};
-    ghost use Rattle.round_states.specs.declared.asked.Asked.TheVariants.{OneNode};
+    ghost use Rattle.round_states.specs.{States.IsStateOf, declared.asked.Asked.TheVariants.OneNode};
     ghost use Rattle.commands.specs.Kinds.{NodeStateText};
 
     type Over = NetworkNode;

@@ -1,7 +1,6 @@
 //! Why a command is refused, and the line that says so.
 ghost use Rattle.std.specs.Prelude.{◌≡◌, IfOk};
-ghost use Rattle.commands.specs.Refusals.{Refuses};
-ghost use Rattle.commands.specs.Refusals.{Writes, line_of, missing_line, number_of, unread_line};
+ghost use Rattle.commands.specs.{Refusals.Refuses, Refusals.Writes, Refusals.line_of, Refusals.missing_line, Refusals.number_of, Refusals.unread_line};
 ghost use Rattle.commands.specs.declared.refusals.Refusal.TheVariants as refusal;
 
 use super::status::Status;

@@ -2,10 +2,8 @@
 ghost use Rattle.std.specs.Prelude.{◌≡◌, IfErr, IfOk, OnOk};
 ghost use Rattle.arrivals.specs.Amounts.{AreArrivals, arriving_of};
 ghost use Rattle.net_parts.specs.Numbers.{number_of};
-ghost use Rattle.commands.specs.Kinds.{ArrivalsText, node_state_of};
+ghost use Rattle.commands.specs.{Kinds.ArrivalsText, Kinds.node_state_of, Stops.StopsIn, Texts.AreIn, Texts.three_texts, Texts.two_texts};
 ghost use Rattle.round_states.specs.States.{IsStateOf};
-ghost use Rattle.commands.specs.Stops.{StopsIn};
-ghost use Rattle.commands.specs.Texts.{AreIn, three_texts, two_texts};
 
 use super::kinds::{NetworkNode, NodeState};
 use super::refusals::{Refusal, TextPlace};

@@ -1,7 +1,6 @@
 //! The texts of a command, fetched from the shelf and read.
 ghost use Rattle.std.specs.Prelude.{◌≡◌, IfOk, IfErr, OnOk};
-ghost use Rattle.commands.specs.Stops.{StopsAt};
-ghost use Rattle.commands.specs.Texts.{IsIn};
+ghost use Rattle.commands.specs.{Stops.StopsAt, Texts.IsIn};
 
 use super::refusals::{Refusal, TextPlace};
 use outside_world::{Shelf, ShelfFault};
@@ -25,10 +24,7 @@ pub enum Flaw {
 /// What is read of a text of a command.
 pub trait FromText: Drop {
     ghost use Rattle.std.specs.Prelude.{◌≤◌, IfErr, IfOk, length};
-    ghost use Rattle.commands.specs.Flaws.{IsFlaw};
-    ghost use Rattle.commands.specs.Kinds.{Kind};
-    ghost use Rattle.commands.specs.Limits.{most_bytes};
-    ghost use Rattle.commands.specs.Texts.{IsReadAs};
+    ghost use Rattle.commands.specs.{Flaws.IsFlaw, Kinds.Kind, Limits.most_bytes, Texts.IsReadAs};
 
     /// What the text is read over: the network of a text before it, or nothing.
     type Over;

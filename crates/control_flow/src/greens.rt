@@ -70,8 +70,7 @@ impl Model for Timeline {
 
 impl Timeline {
     ghost use Rattle.std.specs.Prelude.{◌≡◌, ℕ, Some, List, OnErr, OnOk};
-    ghost use Rattle.phase_plan.specs.Phases.{IsRing};
-    ghost use Rattle.phase_plan.specs.declared.Phase.{Phase};
+    ghost use Rattle.phase_plan.specs.{Phases.IsRing, declared.Phase.Phase};
     ghost use Rattle.switch_rules.specs.declared.Head.{Head};
     ghost use Rattle.control_flow.specs.Greens.{GoesOn, IsContinued, IsInOrder, IsLawful, Joins, head_at, spliced};
 

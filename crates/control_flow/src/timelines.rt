@@ -4,8 +4,7 @@ ghost use Rattle.std.specs.Prelude.{◌≡◌, ℕ, ◌+◌, ◌-◌, ◌<◌, �
 ghost use Rattle.std.specs.List.{range_with_len};
 ghost use Rattle.phase_plan.specs.Phases as spec;
 ghost use Rattle.phase_plan.specs.Phases.{IsRing, is_unmarked_at, passed_numbers, phase_at};
-ghost use Rattle.switch_rules.specs.Bounds.{latest_time};
-ghost use Rattle.switch_rules.specs.Serving.{IsHead, earliest_end, earliest_green};
+ghost use Rattle.switch_rules.specs.{Bounds.latest_time, Serving.IsHead, Serving.earliest_end, Serving.earliest_green};
 ghost use Rattle.control_flow.specs.Greens.{AreApart, BeginBy, GoesOn, IsLawful, end_of};
 ghost use Rattle.control_flow.specs.Timelines.{AreServings, HasGreens, line_of, rotation_of, turned, left_for, last_end, shortest_greens, begin_after, stops_at};
 

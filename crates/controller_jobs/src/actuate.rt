@@ -2,12 +2,8 @@
 ghost use Rattle.std.specs.Prelude.{IfOk};
 ghost use Rattle.arrivals.specs.Amounts.{AreArrivals, arriving_of};
 ghost use Rattle.command_words.specs.Calls.{Actuate};
-ghost use Rattle.commands.specs.Controllers.{IsActuatedReport, IsActuatedRun};
-ghost use Rattle.commands.specs.Ending.{Makes};
-ghost use Rattle.commands.specs.Outcome.{Outcome};
-ghost use Rattle.audit.specs.SheetTexts.{HasShape};
-ghost use Rattle.audit.specs.Audits.{IsClean};
-ghost use Rattle.audit.specs.LineRuns.{sheet_of};
+ghost use Rattle.commands.specs.{Controllers.IsActuatedReport, Controllers.IsActuatedRun, Ending.Makes, Outcome.Outcome};
+ghost use Rattle.audit.specs.{Audits.IsClean, LineRuns.sheet_of, SheetTexts.HasShape};
 
 use actuated::{ActRecord, act_report, run_actuated};
 use arrivals::Arrivals;

@@ -1,14 +1,11 @@
 //! What `serve` answers to a request.
 ghost use Rattle.std.specs.Prelude.{◌≡◌, ◌≤◌, ◌++◌, ℕ, List, Some, IfOk, IfErr, length};
 ghost use Rattle.std.specs.List.{concat};
-ghost use Rattle.commands.specs.Kinds.{StateText, node_state_of};
-ghost use Rattle.commands.specs.Limits.{most_bytes};
-ghost use Rattle.commands.specs.Texts.{IsReadAs};
-ghost use Rattle.controller_jobs.specs.Gathering.{AskedText, HasLine, IsGathered, IsOf, OrNoMemory, request_of};
+ghost use Rattle.commands.specs.{Kinds.StateText, Kinds.node_state_of, Limits.most_bytes, Texts.IsReadAs};
+ghost use Rattle.controller_jobs.specs.{Gathering.AskedText, Gathering.HasLine, Gathering.IsGathered, Gathering.IsOf, Gathering.OrNoMemory, Gathering.request_of, Requests.asked_by, Requests.names_in, Serving.IsAnswer, Serving.IsDecided};
+ghost use Rattle.controller_jobs.specs.{Serving.IsDecidedFor, Serving.IsFirstRefused, Serving.IsNodeDecided, Serving.IsNodeRefused, Serving.IsRefused, Serving.IsWhy, Serving.end_line, Serving.refused_answer};
 ghost use Rattle.commands.specs.declared.refusals.Refusal.TheVariants as refusal;
 ghost use Rattle.commands.specs.declared.refusals.TextPlace.TheVariants as place;
-ghost use Rattle.controller_jobs.specs.Requests.{asked_by, names_in};
-ghost use Rattle.controller_jobs.specs.Serving.{IsAnswer, IsDecided, IsDecidedFor, IsFirstRefused, IsNodeDecided, IsNodeRefused, IsRefused, IsWhy, end_line, refused_answer};
 ghost use Rattle.road_net.specs.Network.{IsNetwork};
 ghost use Rattle.round_states.specs.States.{IsStateOf};
 

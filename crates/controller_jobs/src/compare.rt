@@ -2,9 +2,7 @@
 ghost use Rattle.std.specs.Prelude.{IfOk};
 ghost use Rattle.arrivals.specs.Amounts.{AreArrivals, arriving_of};
 ghost use Rattle.command_words.specs.Calls.{Compare};
-ghost use Rattle.commands.specs.Controllers.{AreActuatedTotals, ArePlannedTotals, IsComparison};
-ghost use Rattle.commands.specs.Ending.{Makes};
-ghost use Rattle.commands.specs.Outcome.{Outcome};
+ghost use Rattle.commands.specs.{Controllers.AreActuatedTotals, Controllers.ArePlannedTotals, Controllers.IsComparison, Ending.Makes, Outcome.Outcome};
 
 use super::actuate::actuated_run;
 use arrivals::Arrivals;

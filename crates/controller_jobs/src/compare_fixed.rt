@@ -3,9 +3,7 @@ ghost use Rattle.std.specs.Prelude.{◌≡◌, IfOk};
 ghost use Rattle.arrivals.specs.Amounts.{AreArrivals, arriving_of};
 ghost use Rattle.net_simulator.specs.Shown.{all_shown};
 ghost use Rattle.command_words.specs.Calls.{CompareFixed};
-ghost use Rattle.commands.specs.Controllers.{IsComparisonWith, fixed_timelines};
-ghost use Rattle.commands.specs.Ending.{Makes};
-ghost use Rattle.commands.specs.Outcome.{Outcome};
+ghost use Rattle.commands.specs.{Controllers.IsComparisonWith, Controllers.fixed_timelines, Ending.Makes, Outcome.Outcome};
 ghost use Rattle.fixed_plans.specs.Rows.{IsFixedPlan};
 
 use super::compare::comparison;

@@ -2,9 +2,7 @@
 ghost use Rattle.std.specs.Prelude.{◌≡◌, ◌<◌, ℕ, List, IfErr, IfOk, IsSome, OnOk, Some, length};
 ghost use Rattle.net_parts.specs.Numbers.{number_of};
 ghost use Rattle.command_words.specs.Calls.{Decide, DecideNode};
-ghost use Rattle.commands.specs.Ending.{Makes};
-ghost use Rattle.commands.specs.Outcome.{Outcome};
-ghost use Rattle.commands.specs.Rounds.{IsDecisionText, IsNodeDecisionText};
+ghost use Rattle.commands.specs.{Ending.Makes, Outcome.Outcome, Rounds.IsDecisionText, Rounds.IsNodeDecisionText};
 ghost use Rattle.round_states.specs.States.{IsStateOf};
 ghost use Rattle.controller_jobs.specs.Nodes.{MissesNode};
 

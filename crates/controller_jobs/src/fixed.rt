@@ -2,19 +2,11 @@
 ghost use Rattle.std.specs.Prelude.{◌≡◌, ◌≤◌, ℕ, IfOk};
 ghost use Rattle.arrivals.specs.Amounts.{AreArrivals, arriving_of};
 ghost use Rattle.net_parts.specs.Limits.{most_of_all};
-ghost use Rattle.audit.specs.Audits.{IsClean, IsCleanText};
+ghost use Rattle.audit.specs.{Audits.IsClean, Audits.IsCleanText, LineReports.line_text, LineRuns.sheet_of, LineRuns.shown_sheet, SheetTexts.HasShape};
 ghost use Rattle.command_words.specs.Calls.{Fixed};
-ghost use Rattle.commands.specs.Controllers.{IsFixedReport, fixed_timelines};
-ghost use Rattle.commands.specs.Ending.{Makes};
-ghost use Rattle.commands.specs.Outcome.{Outcome};
-ghost use Rattle.fixed_plans.specs.FixedBounds.{fixed_bounds};
-ghost use Rattle.fixed_plans.specs.Rows.{IsFixedPlan};
-ghost use Rattle.audit.specs.LineReports.{line_text};
-ghost use Rattle.audit.specs.LineRuns.{sheet_of, shown_sheet};
-ghost use Rattle.net_simulator.specs.Shown.{cumulative_of_lines};
-ghost use Rattle.net_simulator.specs.Sums.{end_of_run, total_arrived};
-ghost use Rattle.net_simulator.specs.Worlds.{line_in};
-ghost use Rattle.audit.specs.SheetTexts.{HasShape};
+ghost use Rattle.commands.specs.{Controllers.IsFixedReport, Controllers.fixed_timelines, Ending.Makes, Outcome.Outcome};
+ghost use Rattle.fixed_plans.specs.{FixedBounds.fixed_bounds, Rows.IsFixedPlan};
+ghost use Rattle.net_simulator.specs.{Shown.cumulative_of_lines, Sums.end_of_run, Sums.total_arrived, Worlds.line_in};
 ghost use Rattle.signal_safety.specs.Safe.{IsSafe};
 ghost use Rattle.waits.specs.Discharges.{AreWaitsWithin};
 

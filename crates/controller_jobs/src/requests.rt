@@ -3,8 +3,7 @@ ghost use Rattle.std.specs.Prelude.{◌≡◌, ◌≢◌, ◌↔◌, ◌<◌, �
 ghost use Rattle.std.specs.Io.BufRead.{strip_last};
 ghost use Rattle.std.specs.List.{slice_split};
 ghost use Rattle.std.specs.Option.{option_map, option_map_or};
-ghost use Rattle.controller_jobs.specs.Gathering.{IsFirstComma, IsGathered, IsOf, IsTooMuch};
-ghost use Rattle.controller_jobs.specs.Requests.{EndsRequest, names_after_end, names_in};
+ghost use Rattle.controller_jobs.specs.{Gathering.IsFirstComma, Gathering.IsGathered, Gathering.IsOf, Gathering.IsTooMuch, Requests.EndsRequest, Requests.names_after_end, Requests.names_in};
 ghost use Rattle.outside_world.specs.declared.source.LineRead.TheVariants as variant;
 
 use commands::MOST_BYTES;

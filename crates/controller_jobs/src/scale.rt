@@ -1,15 +1,10 @@
 //! The command `scale NET ARR FROM TO STEP`.
 ghost use Rattle.std.specs.Prelude.{◌≡◌, ◌+◌, ◌-◌, ◌*◌, ◌/◌, ◌≤◌, ◌∷◌, ◌++◌, IfErr, IfOk, OnOk};
 ghost use Rattle.std.specs.List.{join_with_byte};
-ghost use Rattle.arrivals.specs.Amounts.{AreArrivals, arriving_of};
-ghost use Rattle.arrivals.specs.Scaling.{IsScaled, greatest_factor, scaled_whole};
+ghost use Rattle.arrivals.specs.{Amounts.AreArrivals, Amounts.arriving_of, Scaling.IsScaled, Scaling.greatest_factor, Scaling.scaled_whole};
 ghost use Rattle.net_parts.specs.Limits.{most_of_all};
-ghost use Rattle.command_words.specs.Calls.{Scale};
-ghost use Rattle.command_words.specs.Factors.{AreFactors};
-ghost use Rattle.commands.specs.Controllers.{BringTooMuch, IsScaleTable, factors};
-ghost use Rattle.commands.specs.Ending.{Makes};
-ghost use Rattle.commands.specs.Outcome.{Outcome};
-ghost use Rattle.commands.specs.Summary.{scale_line, totals_words};
+ghost use Rattle.command_words.specs.{Calls.Scale, Factors.AreFactors};
+ghost use Rattle.commands.specs.{Controllers.BringTooMuch, Controllers.IsScaleTable, Controllers.factors, Ending.Makes, Outcome.Outcome, Summary.scale_line, Summary.totals_words};
 ghost use Rattle.controller_jobs.specs.Factors.{GainsScaleLine, RefusesFactor, RefusesFactors};
 
 use super::compare::{actuated_totals, planned_totals};

@@ -2,11 +2,7 @@
 ghost use Rattle.std.specs.Prelude.{◌≡◌, ◌<◌, ◌++◌, IfOk, OnOk, length};
 ghost use Rattle.arrivals.specs.Amounts.{AreArrivals, arriving_of};
 ghost use Rattle.command_words.specs.Calls.{Spill};
-ghost use Rattle.commands.specs.Ending.{Makes};
-ghost use Rattle.commands.specs.Headline.{IsRunOf};
-ghost use Rattle.commands.specs.Outcome.{Outcome};
-ghost use Rattle.commands.specs.Storages.{IsSpillTable, spilled_under};
-ghost use Rattle.commands.specs.Summary.{spilled_line};
+ghost use Rattle.commands.specs.{Ending.Makes, Headline.IsRunOf, Outcome.Outcome, Storages.IsSpillTable, Storages.spilled_under, Summary.spilled_line};
 ghost use Rattle.histories.specs.Histories.{turn_order};
 ghost use Rattle.net_simulator.specs.Worlds.{line_in, signs_by};
 ghost use Rattle.runs.specs.declared.records.RunRecord.{RunRecord};

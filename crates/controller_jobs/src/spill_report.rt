@@ -1,12 +1,9 @@
 //! The command `spill NET ARR STORE actuated`.
 ghost use Rattle.std.specs.Prelude.{◌≡◌, IfOk, length};
 ghost use Rattle.arrivals.specs.Amounts.{AreArrivals, arriving_of};
-ghost use Rattle.audit.specs.LineReports.{cut_at, line_text};
-ghost use Rattle.audit.specs.SheetTexts.{HasShape, IsSheetText};
+ghost use Rattle.audit.specs.{LineReports.cut_at, LineReports.line_text, SheetTexts.HasShape, SheetTexts.IsSheetText};
 ghost use Rattle.command_words.specs.Calls.{SpillActuated};
-ghost use Rattle.commands.specs.Ending.{Makes};
-ghost use Rattle.commands.specs.Outcome.{Outcome};
-ghost use Rattle.commands.specs.Storages.{IsSpillReport, told_totals};
+ghost use Rattle.commands.specs.{Ending.Makes, Outcome.Outcome, Storages.IsSpillReport, Storages.told_totals};
 ghost use Rattle.net_simulator.specs.Sums.{end_of_run};
 
 use arrivals::Arrivals;

@@ -3,8 +3,7 @@ ghost use Rattle.std.specs.Prelude.{◌≡◌, ℕ, List, Some, IfErr, IfOk};
 ghost use Rattle.csv.specs.Records.{fields_of};
 ghost use Rattle.road_net.specs.Network.{IsNetwork};
 ghost use Rattle.delay_report.specs.Entries as entries;
-ghost use Rattle.delay_report.specs.Entries.{steps_of};
-ghost use Rattle.delay_report.specs.Readers.{steps_if, IsEntryFault};
+ghost use Rattle.delay_report.specs.{Entries.steps_of, Readers.steps_if, Readers.IsEntryFault};
 
 use crate::faults::HistoryFault;
 use csv::ByteRecord;

@@ -4,12 +4,9 @@ ghost use Rattle.net_parts.specs.Limits.{most_of_all};
 ghost use Rattle.audit.specs.Audits.{IsCleanText};
 ghost use Rattle.histories.specs.Histories.{IsLawful};
 ghost use Rattle.net_simulator.specs.Sums.{total_arrived};
-ghost use Rattle.runs.specs.Complete.{IsComplete};
-ghost use Rattle.runs.specs.Promises.{IsKeptRun};
-ghost use Rattle.runs.specs.declared.records.RunRecord.{RunRecord};
-ghost use Rattle.delay_report.specs.Reports.{outcome_records, records_text, report_text, steps_records};
+ghost use Rattle.runs.specs.{Complete.IsComplete, Promises.IsKeptRun, declared.records.RunRecord.RunRecord};
+ghost use Rattle.delay_report.specs.{Reports.outcome_records, Reports.records_text, Reports.report_text, Reports.steps_records, Texts.IsHistoryText};
 ghost use Rattle.road_net.specs.Network.{IsNetwork};
-ghost use Rattle.delay_report.specs.Texts.{IsHistoryText};
 
 use crate::plans::write_plans;
 use crate::steps::write_steps;

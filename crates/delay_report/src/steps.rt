@@ -2,12 +2,10 @@
 ghost use Rattle.std.specs.Prelude.{◌≡◌, ◌+◌, ◌<◌, [], ◌∷◌, IfOk, OnOk, codes, length, map};
 ghost use Rattle.std.specs.Fmt.{decimal};
 ghost use Rattle.std.specs.List.{range_with_len};
-ghost use Rattle.histories.specs.Histories.{IsLawful, round_at, step_at};
-ghost use Rattle.histories.specs.Steps.{board_steps};
+ghost use Rattle.histories.specs.{Histories.IsLawful, Histories.round_at, Histories.step_at, Steps.board_steps};
 ghost use Rattle.net_parts.specs.Outline.{link_name_at, node_name_at};
 ghost use Rattle.road_net.specs.Network.{IsNetwork};
-ghost use Rattle.delay_report.specs.Reports.{step_record_at};
-ghost use Rattle.delay_report.specs.Walks.{HasWalkedTo, link_of};
+ghost use Rattle.delay_report.specs.{Reports.step_record_at, Walks.HasWalkedTo, Walks.link_of};
 ghost use Rattle.world_records.specs.Written.{Adds};
 
 use csv::Writer;

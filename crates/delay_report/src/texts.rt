@@ -1,12 +1,9 @@
 //! The file of a history.
 ghost use Rattle.std.specs.Prelude.{◌≢◌, ◌<◌, ◌^◌, ℕ, List, IfErr, IfOk, OnOk, length};
 ghost use Rattle.csv.specs.Records.{fields_of};
-ghost use Rattle.histories.specs.Histories.{IsLawful};
-ghost use Rattle.histories.specs.Progress.{HasCome};
+ghost use Rattle.histories.specs.{Histories.IsLawful, Progress.HasCome};
 ghost use Rattle.road_net.specs.Network.{IsNetwork};
-ghost use Rattle.delay_report.specs.Faults.{IsTextFault};
-ghost use Rattle.delay_report.specs.Readers.{AreTaken, IsEntryFault};
-ghost use Rattle.delay_report.specs.Texts.{IsHistoryText};
+ghost use Rattle.delay_report.specs.{Faults.IsTextFault, Readers.AreTaken, Readers.IsEntryFault, Texts.IsHistoryText};
 
 use crate::entries::read_step;
 use crate::faults::HistoryFault;

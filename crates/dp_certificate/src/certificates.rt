@@ -3,9 +3,7 @@
 ghost use Rattle.std.specs.Prelude.{◌≡◌, ◌+◌, ◌^◌, ◌<◌, ◌≤◌, ◌↔◌, ℕ, All, length, slice_index, IfNone, IfSome, IsTrue, false};
 ghost use Rattle.switch_rules.specs.Serving.{IsHead};
 ghost use Rattle.schedule_meaning.specs.Instances.{list_at};
-ghost use Rattle.dp_certificate.specs.Certificates.{AreRising, IsEntry, head_of};
-ghost use Rattle.dp_certificate.specs.Numbers.{AreLengths};
-ghost use Rattle.dp_certificate.specs.Faults.{IsFirstLow, IsFirstOut};
+ghost use Rattle.dp_certificate.specs.{Certificates.AreRising, Certificates.IsEntry, Certificates.head_of, Faults.IsFirstLow, Faults.IsFirstOut, Numbers.AreLengths};
 
 use super::Entry;
 use foundation::threads::CrossesThreads;
@@ -26,8 +24,7 @@ pub struct Certificate {
 
 impl Model for Certificate {
     ghost use Rattle.std.specs.Prelude.{◌≡◌};
-    ghost use Rattle.dp_certificate.specs.Certificates.{Claim, IsCertificate};
-    ghost use Rattle.dp_certificate.specs.Numbers.{IsNumbered};
+    ghost use Rattle.dp_certificate.specs.{Certificates.Claim, Certificates.IsCertificate, Numbers.IsNumbered};
 
     ghost Value = { Claim };
 
@@ -52,9 +49,7 @@ pub enum CertFault {
 
 impl Certificate {
     ghost use Rattle.std.specs.Prelude.{◌≡◌, ◌^◌, ◌<◌, IfOk, IfErr, OnErr, length, vec_len};
-    ghost use Rattle.dp_certificate.specs.Certificates.{IsCertificate};
-    ghost use Rattle.dp_certificate.specs.Faults.{IsCertFault};
-    ghost use Rattle.dp_certificate.specs.Numbers.{IsNumbered, IsShort};
+    ghost use Rattle.dp_certificate.specs.{Certificates.IsCertificate, Faults.IsCertFault, Numbers.IsNumbered, Numbers.IsShort};
 
     /// The certificate of these parts, where each entry is within its bounds and their keys rise. The fault is the
     /// first entry out of its bounds, or else the first whose key is not above the key before it. There are fewer than

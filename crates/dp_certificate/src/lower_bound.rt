@@ -1,11 +1,9 @@
 //! What clusters cost at the least that are not yet served: between two arrivals it is linear in the second.
 
 ghost use Rattle.std.specs.Prelude.{◌≡◌, ℕ, ◌≤◌, All, length, slice_index, sum_by};
-ghost use Rattle.switch_rules.specs.Bounds.{latest_time, most_clusters};
-ghost use Rattle.switch_rules.specs.Serving.{IsCluster};
+ghost use Rattle.switch_rules.specs.{Bounds.latest_time, Bounds.most_clusters, Serving.IsCluster};
 ghost use Rattle.schedule_meaning.specs.Instances.{IsSpaced, list_at};
-ghost use Rattle.dp_certificate.specs.LowerBound.{IsLinear, IsShallow, most_rest};
-ghost use Rattle.dp_certificate.specs.Proves.{rest_of, wait_until};
+ghost use Rattle.dp_certificate.specs.{LowerBound.IsLinear, LowerBound.IsShallow, LowerBound.most_rest, Proves.rest_of, Proves.wait_until};
 
 use super::Entry;
 use schedule_meaning::Instance;
@@ -34,10 +32,7 @@ impl RemainingCost {
     ghost use Rattle.std.specs.Prelude.{◌≡◌, ◌↔◌, ℕ, ◌≤◌, IsTrue, length, slice_index};
     ghost use Rattle.switch_rules.specs.Bounds.{latest_time};
     ghost use Rattle.schedule_meaning.specs.Instances.{Problem, list_at};
-    ghost use Rattle.dp_certificate.specs.Limits.{IsWithin};
-    ghost use Rattle.dp_certificate.specs.LowerBound.{IsRemainingCost};
-    ghost use Rattle.dp_certificate.specs.NextEntry.{stage_of_next};
-    ghost use Rattle.dp_certificate.specs.Proves.{rest_of};
+    ghost use Rattle.dp_certificate.specs.{Limits.IsWithin, LowerBound.IsRemainingCost, NextEntry.stage_of_next, Proves.rest_of};
 
     /// Nothing was asked for yet.
     pub fn new() -> RemainingCost

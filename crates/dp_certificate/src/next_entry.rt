@@ -4,10 +4,7 @@ ghost use Rattle.std.specs.Prelude.{◌≡◌, ℕ, ◌+◌, ◌<◌, ◌≤◌,
 ghost use Rattle.std.specs.Option.{option_map};
 ghost use Rattle.switch_rules.specs.Serving.{IsCluster, serving};
 ghost use Rattle.schedule_meaning.specs.Instances.{list_at};
-ghost use Rattle.dp_certificate.specs.Certificates.{IsEntry, head_of};
-ghost use Rattle.dp_certificate.specs.NextEntry.{IsNext, stage_of_next};
-ghost use Rattle.dp_certificate.specs.Prefixes.{stage_after};
-ghost use Rattle.dp_certificate.specs.Proves.{stage_of_entry};
+ghost use Rattle.dp_certificate.specs.{Certificates.IsEntry, Certificates.head_of, NextEntry.IsNext, NextEntry.stage_of_next, Prefixes.stage_after, Proves.stage_of_entry};
 
 use super::Entry;
 use foundation::steps::Steps;

@@ -1,8 +1,7 @@
 //! Where a key is among entries that rise.
 
 ghost use Rattle.std.specs.Prelude.{◌<◌, ◌≤◌, length};
-ghost use Rattle.dp_certificate.specs.Certificates.{IsBefore, digits_of, entry_at};
-ghost use Rattle.dp_certificate.specs.Places.{IsPlace, IsSpan};
+ghost use Rattle.dp_certificate.specs.{Certificates.IsBefore, Certificates.digits_of, Certificates.entry_at, Places.IsPlace, Places.IsSpan};
 
 use super::Entry;
 

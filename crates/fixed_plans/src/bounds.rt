@@ -1,10 +1,8 @@
 //! Within how many seconds queues lose something under a fixed plan.
 ghost use Rattle.std.specs.Prelude.{◌≡◌, ◌<◌, ◌≤◌, ◌==◌, find, option_copied, IfOk, length, map};
 ghost use Rattle.std.specs.List.{range_with_len};
-ghost use Rattle.fixed_plans.specs.Cycles.{IsCycle};
+ghost use Rattle.fixed_plans.specs.{Cycles.IsCycle, FixedBounds.green_bound, Rows.IsFixedPlan};
 ghost use Rattle.fixed_plans.specs.FixedBounds as spec;
-ghost use Rattle.fixed_plans.specs.FixedBounds.{green_bound};
-ghost use Rattle.fixed_plans.specs.Rows.{IsFixedPlan};
 ghost use Rattle.net_parts.specs.Outline.{plan_at};
 ghost use Rattle.phase_plan.specs.Phases.{IsPhase};
 

@@ -1,18 +1,13 @@
 //! The timelines of a fixed plan.
 ghost use Rattle.std.specs.Prelude.{◌≡◌, ◌+◌, ◌-◌, ◌%◌, ◌<◌, ◌≤◌, ◌++◌, ◌∷◌, [], ℕ, nat_lt, if◌then◌else◌, IfOk, OnOk, length, map, slice_index_or};
 ghost use Rattle.std.specs.List.{range_with_len};
-ghost use Rattle.fixed_plans.specs.FixedBounds.{fixed_bounds};
-ghost use Rattle.net_parts.specs.Limits.{most_seconds};
+ghost use Rattle.fixed_plans.specs.{Cycles.IsCycle, FixedBounds.fixed_bounds, Lines.cycle_length, Lines.cycle_line, Lines.fixed_line, Lines.green_of, Lines.offset_of, Rows.IsFixedPlan};
+ghost use Rattle.net_parts.specs.{Limits.most_seconds, Outline.plan_at};
 ghost use Rattle.control_flow.specs.Greens.{IsLawful, end_of};
-ghost use Rattle.net_parts.specs.Outline.{plan_at};
-ghost use Rattle.net_simulator.specs.Shown.{cumulative_of_lines};
+ghost use Rattle.net_simulator.specs.{Shown.cumulative_of_lines, Worlds.line_in};
 ghost use Rattle.net_simulator.specs.Sums as sums;
-ghost use Rattle.net_simulator.specs.Worlds.{line_in};
 ghost use Rattle.phase_plan.specs.Phases.{IsRing};
 ghost use Rattle.fixed_plans.specs.Lines as spec;
-ghost use Rattle.fixed_plans.specs.Lines.{cycle_length, cycle_line, fixed_line, green_of, offset_of};
-ghost use Rattle.fixed_plans.specs.Rows.{IsFixedPlan};
-ghost use Rattle.fixed_plans.specs.Cycles.{IsCycle};
 ghost use Rattle.waits.specs.Discharges.{AreWaitsWithin};
 
 use crate::plan::FixedPlan;

@@ -2,8 +2,7 @@
 ghost use Rattle.std.specs.Prelude.{◌≡◌, ◌≢◌, [], ◌∷◌, None, Some, MatchOption, length};
 ghost use Rattle.csv.specs.Records.{fields_of};
 ghost use Rattle.road_net.specs.Network.{IsNetwork};
-ghost use Rattle.fixed_plans.specs.Records.{parse};
-ghost use Rattle.fixed_plans.specs.Readers.{Reads};
+ghost use Rattle.fixed_plans.specs.{Readers.Reads, Records.parse};
 
 use crate::faults::FixedFault;
 use crate::rows::FixedRow;

@@ -1,18 +1,11 @@
 //! Waits under fixed plans.
 ghost use Rattle.std.specs.Prelude.{ℕ, ◌+◌, ◌<◌, ◌≤◌, Contains, List, length};
 ghost use Rattle.control_flow.specs.Greens.{IsLawful};
-ghost use Rattle.fixed_plans.specs.Lines.{cycle_length, fixed_line, rows_of};
-ghost use Rattle.fixed_plans.specs.Rows.{IsFixedPlan};
-ghost use Rattle.fixed_plans.specs.declared.rows.FixedRow.{FixedRow};
-ghost use Rattle.net_parts.specs.Numbers.{Net};
-ghost use Rattle.net_parts.specs.Outline.{plan_at};
-ghost use Rattle.net_simulator.specs.Flow.{cumulative_under};
-ghost use Rattle.net_simulator.specs.Sums.{end_of_run};
-ghost use Rattle.net_simulator.specs.Worlds.{signs_by};
+ghost use Rattle.fixed_plans.specs.{FixedBounds.fixed_bounds, Lines.cycle_length, Lines.fixed_line, Lines.rows_of, Rows.IsFixedPlan, declared.rows.FixedRow.FixedRow};
+ghost use Rattle.net_parts.specs.{Numbers.Net, Outline.plan_at};
+ghost use Rattle.net_simulator.specs.{Flow.cumulative_under, Sums.end_of_run, Worlds.signs_by};
 ghost use Rattle.road_net.specs.Network.{IsNetwork};
-ghost use Rattle.fixed_plans.specs.FixedBounds.{fixed_bounds};
-ghost use Rattle.waits.specs.Discharges.{AreWaitsWithin};
-ghost use Rattle.waits.specs.Waits.{IsGreenBy};
+ghost use Rattle.waits.specs.{Discharges.AreWaitsWithin, Waits.IsGreenBy};
 
 /// Under a fixed plan each phase that has a row is green within each length of its node's cycle.
 ///

@@ -1,8 +1,7 @@
 //! Which row may come after another one.
 ghost use Rattle.std.specs.Prelude.{◌≡◌, ◌↔◌, ◌<◌, ◌≤◌, IfSome, IsTrue, length};
 ghost use Rattle.fixed_plans.specs.Rows as spec;
-ghost use Rattle.fixed_plans.specs.Rows.{AreMarked, ComesNext, HasGreen, HasOffset, IsEnd, IsFirstFrom, IsLastRow};
-ghost use Rattle.fixed_plans.specs.Readers.{IsPlaced};
+ghost use Rattle.fixed_plans.specs.{Readers.IsPlaced, Rows.AreMarked, Rows.ComesNext, Rows.HasGreen, Rows.HasOffset, Rows.IsEnd, Rows.IsFirstFrom, Rows.IsLastRow};
 
 use crate::rows::{Before, FixedRow};
 use phase_plan::PhasePlan;

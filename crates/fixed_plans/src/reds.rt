@@ -1,14 +1,9 @@
 //! How long phases are red under a fixed plan.
 ghost use Rattle.std.specs.Prelude.{◌≡◌, ℕ, ◌<◌, List, IfOk, length, map};
 ghost use Rattle.std.specs.List.{range_with_len};
-ghost use Rattle.fixed_plans.specs.Cycles.{IsCycle};
-ghost use Rattle.fixed_plans.specs.Lines.{fixed_line};
+ghost use Rattle.fixed_plans.specs.{Cycles.IsCycle, Lines.fixed_line, Reds.AreReds, Reds.fixed_red, Rows.IsFixedPlan, declared.rows.FixedRow.FixedRow};
 ghost use Rattle.fixed_plans.specs.Reds as spec;
-ghost use Rattle.fixed_plans.specs.Reds.{AreReds, fixed_red};
-ghost use Rattle.fixed_plans.specs.Rows.{IsFixedPlan};
-ghost use Rattle.fixed_plans.specs.declared.rows.FixedRow.{FixedRow};
-ghost use Rattle.net_parts.specs.Numbers.{Net};
-ghost use Rattle.net_parts.specs.Outline.{plan_at};
+ghost use Rattle.net_parts.specs.{Numbers.Net, Outline.plan_at};
 ghost use Rattle.net_simulator.specs.Sums.{end_of_run};
 ghost use Rattle.road_net.specs.Network.{IsNetwork};
 

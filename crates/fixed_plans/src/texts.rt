@@ -1,7 +1,6 @@
 //! The file of a fixed plan.
 ghost use Rattle.std.specs.Prelude.{◌≢◌, IfErr, IfOk, List};
-ghost use Rattle.fixed_plans.specs.Faults.{IsTextFault, IsPlanText};
-ghost use Rattle.fixed_plans.specs.Rows.{IsFixedPlan};
+ghost use Rattle.fixed_plans.specs.{Faults.IsTextFault, Faults.IsPlanText, Rows.IsFixedPlan};
 ghost use Rattle.fixed_plans.specs.declared.rows.FixedRow as spec;
 
 use crate::faults::FixedFault;

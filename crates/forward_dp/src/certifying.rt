@@ -2,16 +2,9 @@
 
 ghost use Rattle.std.specs.Prelude.{◌≡◌, ◌+◌, ◌*◌, ◌≤◌, [], List, length, IfOk, OnOk, true};
 ghost use Rattle.switch_rules.specs.Bounds.{most_clusters, most_entries};
-ghost use Rattle.schedule_meaning.specs.Best.{IsBest};
-ghost use Rattle.schedule_meaning.specs.Instances.{IsInstance};
-ghost use Rattle.dp_certificate.specs.Limits.{HasKeysWithin, IsLimited, IsSomeDelay};
-ghost use Rattle.dp_certificate.specs.Numbers.{sequence_of};
-ghost use Rattle.dp_certificate.specs.Prefixes.{HasAllKeys, Key};
-ghost use Rattle.dp_certificate.specs.Proves.{Proves};
-ghost use Rattle.dp_certificate.specs.Whole.{IsWhole};
-ghost use Rattle.forward_dp.specs.Parts.{AreParts};
-ghost use Rattle.forward_dp.specs.Tables.{HasAnswers, HasEntries, all_rows};
-ghost use Rattle.forward_dp.specs.declared.rows.Row.{Row};
+ghost use Rattle.schedule_meaning.specs.{Best.IsBest, Instances.IsInstance};
+ghost use Rattle.dp_certificate.specs.{Limits.HasKeysWithin, Limits.IsLimited, Limits.IsSomeDelay, Numbers.sequence_of, Prefixes.HasAllKeys, Prefixes.Key, Proves.Proves, Whole.IsWhole};
+ghost use Rattle.forward_dp.specs.{Parts.AreParts, Tables.HasAnswers, Tables.HasEntries, Tables.all_rows, declared.rows.Row.Row};
 
 use crate::best_answer;
 use crate::lists::Lists;

@@ -1,12 +1,8 @@
 //! The best answer out of the whole table: backwards over its entries, what completes each at the least cost.
 
 ghost use Rattle.std.specs.Prelude.{◌≡◌, ℕ, ◌+◌, ◌*◌, ◌^◌, ◌<◌, ◌≤◌, List, IfNone, IfOk, IfSome, None, length};
-ghost use Rattle.schedule_meaning.specs.Best.{IsBest, IsLeast};
-ghost use Rattle.schedule_meaning.specs.Instances.{IsInstance};
-ghost use Rattle.dp_certificate.specs.Certificates.{entry_at};
-ghost use Rattle.dp_certificate.specs.Prefixes.{first_stage, stage_after};
-ghost use Rattle.dp_certificate.specs.Proves.{stage_of_entry};
-ghost use Rattle.dp_certificate.specs.Whole.{IsWhole};
+ghost use Rattle.schedule_meaning.specs.{Best.IsBest, Best.IsLeast, Instances.IsInstance};
+ghost use Rattle.dp_certificate.specs.{Certificates.entry_at, Prefixes.first_stage, Prefixes.stage_after, Proves.stage_of_entry, Whole.IsWhole};
 ghost use Rattle.forward_dp.specs.Completions.{AreCompletions, Follows, IsAfter, IsBestBelow, IsBetter, IsCompletion, IsFollowed, cost_of};
 ghost use Rattle.forward_dp.specs.declared.completions.Completion.{Completion as Line};
 

@@ -17,8 +17,7 @@ pub struct Greens {
 
 impl Model for Greens {
     ghost use Rattle.std.specs.Prelude.{List, Option};
-    ghost use Rattle.forward_dp.specs.Rows.{ArePlaced};
-    ghost use Rattle.forward_dp.specs.declared.rows.Row.{Row};
+    ghost use Rattle.forward_dp.specs.{Rows.ArePlaced, declared.rows.Row.Row};
 
     ghost Value = { List (Option Row) };
 

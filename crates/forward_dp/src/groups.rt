@@ -3,12 +3,7 @@
 ghost use Rattle.std.specs.Prelude.{◌≡◌, ◌+◌, ◌<◌, ◌≤◌, IfNone, IfSome, Ok, Some, false, length, slice_get, slice_index};
 ghost use Rattle.switch_rules.specs.Serving.{serving};
 ghost use Rattle.schedule_meaning.specs.Instances.{list_at};
-ghost use Rattle.dp_certificate.specs.Certificates.{IsEntry, head_of};
-ghost use Rattle.dp_certificate.specs.Limits.{IsWithin};
-ghost use Rattle.dp_certificate.specs.LowerBound.{IsRemainingCost};
-ghost use Rattle.dp_certificate.specs.NextEntry.{IsNext, stage_of_next};
-ghost use Rattle.dp_certificate.specs.Prefixes.{stage_after};
-ghost use Rattle.dp_certificate.specs.Proves.{stage_of_entry};
+ghost use Rattle.dp_certificate.specs.{Certificates.IsEntry, Certificates.head_of, Limits.IsWithin, LowerBound.IsRemainingCost, NextEntry.IsNext, NextEntry.stage_of_next, Prefixes.stage_after, Proves.stage_of_entry};
 
 use crate::greens::Greens;
 use crate::rows::{Row, merge, push_row};
@@ -35,8 +30,7 @@ impl CrossesThreads for Reached {}
 
 impl Reached {
     ghost use Rattle.std.specs.Prelude.{◌≡◌, ◌+◌, ◌-◌, ◌<◌, ◌≤◌, OnOk, true, false, length, [], Contains, ◌⊎◌};
-    ghost use Rattle.forward_dp.specs.Groups.{AreJoined, AreReachedBy, IsEmpty, IsSource};
-    ghost use Rattle.forward_dp.specs.Rows.{AreBestOf, AreLater, AreRisingPlaces, AreUpTo, IsOffered, time_of};
+    ghost use Rattle.forward_dp.specs.{Groups.AreJoined, Groups.AreReachedBy, Groups.IsEmpty, Groups.IsSource, Rows.AreBestOf, Rows.AreLater, Rows.AreRisingPlaces, Rows.AreUpTo, Rows.IsOffered, Rows.time_of};
 
     /// Nothing is reached. It takes no memory.
     ///

@@ -5,13 +5,9 @@
 #![tactic(auto)]
 
 ghost use Rattle.std.specs.Prelude.{◌≡◌, ◌⊎◌, ◌+◌, ◌*◌, ◌≤◌, ◌<◌, [], All, Contains, List, length, sum, slice_index, IfNone, IfOk, IfSome};
-ghost use Rattle.schedule_meaning.specs.Best.{IsBest, IsLeast};
-ghost use Rattle.schedule_meaning.specs.Instances.{IsInstance, counts_of};
-ghost use Rattle.dp_certificate.specs.Numbers.{AreLengths};
-ghost use Rattle.dp_certificate.specs.Limits.{HasKeysWithin, IsSomeDelay};
-ghost use Rattle.dp_certificate.specs.Prefixes.{HasAllKeys, Key};
-ghost use Rattle.forward_dp.specs.Rows.{IsNoWorse};
-ghost use Rattle.forward_dp.specs.Tables.{HasAnswers};
+ghost use Rattle.schedule_meaning.specs.{Best.IsBest, Best.IsLeast, Instances.IsInstance, Instances.counts_of};
+ghost use Rattle.dp_certificate.specs.{Limits.HasKeysWithin, Limits.IsSomeDelay, Numbers.AreLengths, Prefixes.HasAllKeys, Prefixes.Key};
+ghost use Rattle.forward_dp.specs.{Rows.IsNoWorse, Tables.HasAnswers};
 
 mod answers;
 mod cell_ends;

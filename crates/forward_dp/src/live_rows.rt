@@ -1,8 +1,7 @@
 //! The rows of a table that can still be served on.
 
 ghost use Rattle.std.specs.Prelude.{◌≡◌, ◌+◌, ◌^◌, ◌<◌, ◌++◌, List, [], length, map, slice_index, OnOk};
-ghost use Rattle.forward_dp.specs.declared.rows.Row.{Row};
-ghost use Rattle.forward_dp.specs.Tables.{HasEntries, HasNone, IsEntered, IsLeft, base_of, source_of};
+ghost use Rattle.forward_dp.specs.{Tables.HasEntries, Tables.HasNone, Tables.IsEntered, Tables.IsLeft, Tables.base_of, Tables.source_of, declared.rows.Row.Row};
 
 use crate::Row;
 use dp_certificate::Entry;

@@ -2,12 +2,9 @@
 
 ghost use Rattle.std.specs.Prelude.{◌≡◌, ◌↔◌, ℕ, ◌+◌, ◌*◌, ◌<◌, ◌≤◌, [], ◌∷◌, List, length, slice_index, sum, IfNone, IfOk, IfSome, IsTrue, OnOk, true};
 ghost use Rattle.schedule_meaning.specs.Instances.{IsInstance};
-ghost use Rattle.dp_certificate.specs.Limits.{HasKeysWithin, IsSomeDelay};
-ghost use Rattle.dp_certificate.specs.Prefixes.{Key};
-ghost use Rattle.forward_dp.specs.Groups.{IsEmpty};
-ghost use Rattle.forward_dp.specs.Numbers.{counts_number};
-ghost use Rattle.forward_dp.specs.Tables.{HasEntries, IsCellMade, IsCellReady, IsFrom, IsGroupFilled, IsGroupReady, IsLastCounts, IsNextCounts, HasNone, IsTableMade, all_rows};
-ghost use Rattle.forward_dp.specs.declared.rows.Row.{Row};
+ghost use Rattle.dp_certificate.specs.{Limits.HasKeysWithin, Limits.IsSomeDelay, Prefixes.Key};
+ghost use Rattle.forward_dp.specs.{Groups.IsEmpty, Numbers.counts_number, Tables.HasEntries, Tables.IsCellMade, Tables.IsCellReady, Tables.IsFrom, Tables.IsGroupFilled, Tables.IsGroupReady, Tables.IsLastCounts, Tables.IsNextCounts};
+ghost use Rattle.forward_dp.specs.{Tables.HasNone, Tables.IsTableMade, Tables.all_rows, declared.rows.Row.Row};
 
 use crate::cell_ends::CellEnds;
 use crate::live_rows::{DroppedRows, Rows};

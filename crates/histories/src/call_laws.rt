@@ -1,13 +1,7 @@
 //! What the merge of the logs of calls is.
 ghost use Rattle.std.specs.Prelude.{◌≡◌, ℕ, List};
-ghost use Rattle.board_model.specs.declared.calls.Call.{Call};
-ghost use Rattle.board_model.specs.Boards.{Log};
-ghost use Rattle.board_model.specs.Calls.{log_at, Agree, AreLogsOf};
-ghost use Rattle.histories.specs.Histories.{IsLawful};
-ghost use Rattle.histories.specs.Merges.{IsMerge};
-ghost use Rattle.histories.specs.Steps.{board_steps, publisher};
-ghost use Rattle.histories.specs.Calls.{AreCalls};
-ghost use Rattle.histories.specs.Places.{AreTold};
+ghost use Rattle.board_model.specs.{Boards.Log, Calls.log_at, Calls.Agree, Calls.AreLogsOf, declared.calls.Call.Call};
+ghost use Rattle.histories.specs.{Calls.AreCalls, Histories.IsLawful, Merges.IsMerge, Places.AreTold, Steps.board_steps, Steps.publisher};
 
 use road_net::{Network, law_of_network};
 

@@ -57,8 +57,7 @@ impl Progress {
     ghost use Rattle.std.specs.Prelude.{◌≡◌, ◌↔◌, ◌++◌, ◌∷◌, ℕ, List, [], IfErr, IfOk, IsTrue, OnErr, OnOk};
     ghost use Rattle.net_parts.specs.Numbers.{Net};
     ghost use Rattle.road_net.specs.Network.{IsNetwork};
-    ghost use Rattle.histories.specs.Histories.{IsLawful};
-    ghost use Rattle.histories.specs.Progress.{HasCome, IsStop, IsStuck};
+    ghost use Rattle.histories.specs.{Histories.IsLawful, Progress.HasCome, Progress.IsStop, Progress.IsStuck};
 
     /// The progress of the history that is empty. `Err`: out of memory.
     ///

@@ -2,8 +2,7 @@
 
 ghost use Rattle.std.specs.Prelude.{◌≡◌, ◌+◌, ◌^◌, ◌<◌, ◌≤◌, length, sum_by, IfOk};
 ghost use Rattle.text_lines.specs.Many.{many_at};
-ghost use Rattle.instance_form.specs.Lines.{cluster_line_at};
-ghost use Rattle.instance_form.specs.Reading.{Gives, phases_at, lists_at};
+ghost use Rattle.instance_form.specs.{Lines.cluster_line_at, Reading.Gives, Reading.phases_at, Reading.lists_at};
 
 use crate::form::{FormFault, Version};
 use crate::lines::{cluster_line, phase_line};

@@ -2,13 +2,10 @@
 
 ghost use Rattle.std.specs.Prelude.{◌≡◌, ◌+◌, ◌^◌, ◌<◌, ◌≤◌, ℕ, List, ◌++◌, length, codes, Bool, IfOk, IfErr, MatchResult};
 ghost use Rattle.phase_plan.specs.declared.Phase.{Phase};
-ghost use Rattle.switch_rules.specs.declared.Head.{Head};
-ghost use Rattle.switch_rules.specs.declared.Cluster.{Cluster};
-ghost use Rattle.instance_form.specs.Answers.{HasParts, IsOutOfMemory, IsWritableForm, text_of};
-ghost use Rattle.instance_form.specs.Faults.{BeginsText, BeginsFront, IsFaultOf};
-ghost use Rattle.instance_form.specs.InstanceText.{HasText, IsFreeWhere, whole_text, line_count};
-ghost use Rattle.instance_form.specs.Reading.{Gives, parts_of, opening_at, plan_at, closing_at, form_at, can_be_all, may_end};
-ghost use Rattle.instance_form.specs.Lines.{seen, head_line_at};
+ghost use Rattle.switch_rules.specs.{declared.Cluster.Cluster, declared.Head.Head};
+ghost use Rattle.instance_form.specs.{Answers.HasParts, Answers.IsOutOfMemory, Answers.IsWritableForm, Answers.text_of, Faults.BeginsText, Faults.BeginsFront, Faults.IsFaultOf, InstanceText.HasText, InstanceText.IsFreeWhere};
+ghost use Rattle.instance_form.specs.{InstanceText.whole_text, InstanceText.line_count, Lines.seen, Lines.head_line_at, Reading.Gives, Reading.parts_of, Reading.opening_at, Reading.plan_at, Reading.closing_at, Reading.form_at};
+ghost use Rattle.instance_form.specs.{Reading.can_be_all, Reading.may_end};
 ghost use Rattle.std.specs.Option.{ok_or};
 
 use crate::form::{Form, FormFault, Version};

@@ -65,13 +65,10 @@ impl CrossesThreads for Actor {}
 impl Actor {
     ghost use Rattle.std.specs.Prelude.{◌≡◌, ℕ, ◌+◌, ◌*◌, ◌<◌, ◌≤◌, ◌++◌, IfOk, OnErr, OnOk, length, vec_capacity, vec_len};
     ghost use Rattle.control_flow.specs.Greens.{BeginBy, IsLawful, end_of};
-    ghost use Rattle.net_parts.specs.Numbers.{Net};
-    ghost use Rattle.net_parts.specs.Outline.{plan_at};
+    ghost use Rattle.net_parts.specs.{Numbers.Net, Outline.plan_at};
     ghost use Rattle.road_net.specs.Senses.{IsSensedOf};
-    ghost use Rattle.intersection_actor.specs.Acting.{IsPublish, at_rest, begun, resting};
-    ghost use Rattle.intersection_actor.specs.Acting.{tells_from, told_at, wanting, with_heard, without_records};
-    ghost use Rattle.intersection_actor.specs.Rounds.{IsCommitted, IsNew, IsOf, KeepsPast};
-    ghost use Rattle.intersection_actor.specs.Steps.{IsPlanned};
+    ghost use Rattle.intersection_actor.specs.{Acting.IsPublish, Acting.at_rest, Acting.begun, Acting.resting, Acting.tells_from, Acting.told_at, Acting.wanting, Acting.with_heard, Acting.without_records, Rounds.IsCommitted, Rounds.IsNew};
+    ghost use Rattle.intersection_actor.specs.{Rounds.IsOf, Rounds.KeepsPast, Steps.IsPlanned};
     ghost use Rattle.clusters.specs.Windows.{counts_of};
     ghost use Rattle.outflow.specs.Outflow.{departures, told_forecast};
 

@@ -1,17 +1,13 @@
 //! What a node plans in a round.
 ghost use Rattle.std.specs.Prelude.{◌≡◌, ◌+◌, ◌<◌, ◌≤◌, ◌++◌, [], ◌∷◌, All, IfOk, OnErr, OnOk, length};
-ghost use Rattle.clusters.specs.Inflow.{IsHeardOf};
-ghost use Rattle.clusters.specs.Sound.{ArePlannable, cluster_lists, clusters_of};
-ghost use Rattle.control_flow.specs.Greens.{BeginBy, IsLawful, Joins, end_of, spliced};
-ghost use Rattle.control_flow.specs.Timelines.{AreServings};
-ghost use Rattle.intersection_actor.specs.Commits.{AreServedBy, line_for, phases_of, used_of};
-ghost use Rattle.intersection_actor.specs.Splices.{IsLawAlong, kept_of, record_from};
-ghost use Rattle.intersection_actor.specs.Steps.{AreSoonServed, HasLine, IsExpected, IsNextLine, IsPlanned, IsScheduled};
+ghost use Rattle.clusters.specs.{Inflow.IsHeardOf, Sound.ArePlannable, Sound.cluster_lists, Sound.clusters_of};
+ghost use Rattle.control_flow.specs.{Greens.BeginBy, Greens.IsLawful, Greens.Joins, Greens.end_of, Greens.spliced, Timelines.AreServings};
+ghost use Rattle.intersection_actor.specs.{Commits.AreServedBy, Commits.line_for, Commits.phases_of, Commits.used_of, Splices.IsLawAlong, Splices.kept_of, Splices.record_from, Steps.AreSoonServed, Steps.HasLine, Steps.IsExpected};
+ghost use Rattle.intersection_actor.specs.{Steps.IsNextLine, Steps.IsPlanned, Steps.IsScheduled};
 ghost use Rattle.net_parts.specs.Outline.{plan_at};
 ghost use Rattle.road_net.specs.Senses.{IsSensedOf};
 ghost use Rattle.schedule_meaning.specs.Best.{IsBest};
-ghost use Rattle.switch_rules.specs.declared.Served.{Served};
-ghost use Rattle.switch_rules.specs.Serving.{IsHead};
+ghost use Rattle.switch_rules.specs.{Serving.IsHead, declared.Served.Served};
 
 use crate::recalls::round_plan;
 use crate::records::{PlanRecord, Used};

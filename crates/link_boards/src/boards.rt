@@ -27,8 +27,7 @@ pub struct Boards<S: LinkSlot> {
 
 impl<S: LinkSlot> Model for Boards<S> {
     ghost use Rattle.std.specs.Prelude.{◌≡◌, vec_len};
-    ghost use Rattle.link_boards.specs.Passes.{BoardsView, boards_view};
-    ghost use Rattle.link_boards.specs.Gathered.{AreBoards};
+    ghost use Rattle.link_boards.specs.{Gathered.AreBoards, Passes.BoardsView, Passes.boards_view};
 
     ghost Value = { BoardsView };
 

@@ -1,8 +1,6 @@
 //! The boards are closed.
 ghost use Rattle.std.specs.Prelude.{◌≡◌, ◌≤◌, ◌∷◌, ◌++◌, None, [], map, IfOk, IfErr, vec_capacity};
-ghost use Rattle.link_boards.specs.Views.{entry};
-ghost use Rattle.link_boards.specs.Passes.{AreAllPasses, AreLogsOfPasses};
-ghost use Rattle.link_boards.specs.Gathered.{HasPasses};
+ghost use Rattle.link_boards.specs.{Gathered.HasPasses, Passes.AreAllPasses, Passes.AreLogsOfPasses, Views.entry};
 
 use crate::boards::{Boards, Place};
 use crate::pass::Pass;

@@ -1,8 +1,6 @@
 //! Passes meet, by couriers.
 ghost use Rattle.std.specs.Prelude.{◌≡◌, [], max, map, All, IsOk};
-ghost use Rattle.link_boards.specs.Views.{courier, informed};
-ghost use Rattle.link_boards.specs.Passes.{highest, raised};
-ghost use Rattle.link_boards.specs.Gathered.{IsCourier};
+ghost use Rattle.link_boards.specs.{Gathered.IsCourier, Passes.highest, Passes.raised, Views.courier, Views.informed};
 
 use crate::boards::{Boards, Place};
 use crate::pass::Pass;
@@ -21,8 +19,7 @@ pub struct Meeting<S: LinkSlot> {
 }
 
 impl<S: LinkSlot> Model for Meeting<S> {
-    ghost use Rattle.link_boards.specs.Gathered.{IsCourier};
-    ghost use Rattle.link_boards.specs.Meetings.{MeetingView, meeting_view};
+    ghost use Rattle.link_boards.specs.{Gathered.IsCourier, Meetings.MeetingView, Meetings.meeting_view};
 
     ghost Value = { MeetingView };
 

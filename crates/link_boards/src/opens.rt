@@ -2,8 +2,7 @@
 ghost use Rattle.std.specs.Prelude.{◌≡◌, ◌<◌, ◌≤◌, ◌+◌, ◌^◌, [], IfOk, IfErr, All, length, replicate, slice_index, vec_len, vec_capacity};
 ghost use Rattle.std.specs.List.{sum};
 ghost use Rattle.board_model.specs.Boards.{most_versions};
-ghost use Rattle.link_boards.specs.Passes.{AreAllPasses, fresh_pass, fresh_passes};
-ghost use Rattle.link_boards.specs.Gathered.{IsDealer};
+ghost use Rattle.link_boards.specs.{Gathered.IsDealer, Passes.AreAllPasses, Passes.fresh_pass, Passes.fresh_passes};
 
 use crate::boards::{Boards, Place};
 use crate::pass::Pass;

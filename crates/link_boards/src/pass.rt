@@ -16,8 +16,7 @@ pub struct Pass<S: LinkSlot> {
 }
 
 impl<S: LinkSlot> Model for Pass<S> {
-    ghost use Rattle.link_boards.specs.Passes.{PassView};
-    ghost use Rattle.link_boards.specs.Gathered.{IsPass, pass_view};
+    ghost use Rattle.link_boards.specs.{Gathered.IsPass, Gathered.pass_view, Passes.PassView};
 
     ghost Value = { PassView };
 

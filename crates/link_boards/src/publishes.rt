@@ -1,10 +1,7 @@
 //! A publishing.
 ghost use Rattle.std.specs.Prelude.{◌≡◌, ◌<◌, ◌≤◌, ◌+◌, IfOk, IfErr, OnErr, OnOk, MatchResult};
 ghost use Rattle.board_model.specs.Boards.{after_publish, most_versions, version_of};
-ghost use Rattle.link_boards.specs.Views.{drew_publish};
-ghost use Rattle.link_boards.specs.Plays.{HasDrawn};
-ghost use Rattle.link_boards.specs.Passes.{HasSent};
-ghost use Rattle.link_boards.specs.Steps.{HoldsSlot, Holding, CanDraw, CanNote, SentHeld, SentAt, Undrawn, held, held_events};
+ghost use Rattle.link_boards.specs.{Passes.HasSent, Plays.HasDrawn, Steps.HoldsSlot, Steps.Holding, Steps.CanDraw, Steps.CanNote, Steps.SentHeld, Steps.SentAt, Steps.Undrawn, Steps.held, Steps.held_events, Views.drew_publish};
 
 use crate::boards::{Boards, Place};
 use crate::pass::Pass;

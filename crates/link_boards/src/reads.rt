@@ -1,11 +1,7 @@
 //! A reading.
 ghost use Rattle.std.specs.Prelude.{◌≡◌, ◌<◌, ◌≤◌, IfOk, OnErr};
 ghost use Rattle.board_model.specs.Boards.{after_read, newest, version_of};
-ghost use Rattle.link_boards.specs.Views.{drew_read};
-ghost use Rattle.link_boards.specs.Plays.{HasDrawn};
-ghost use Rattle.link_boards.specs.Passes.{HasRead};
-ghost use Rattle.link_boards.specs.Steps.{HoldsSlot, Holding, CanDraw, CanNote, ReadHeld, ReadAt, Undrawn, held, held_events};
-ghost use Rattle.link_boards.specs.Slots.{seen_of};
+ghost use Rattle.link_boards.specs.{Passes.HasRead, Plays.HasDrawn, Slots.seen_of, Steps.HoldsSlot, Steps.Holding, Steps.CanDraw, Steps.CanNote, Steps.ReadHeld, Steps.ReadAt, Steps.Undrawn, Steps.held, Steps.held_events, Views.drew_read};
 
 use crate::boards::{Boards, Place};
 use crate::pass::Pass;

@@ -1,10 +1,7 @@
 // The rule of the table, and the names of its steps.
 ghost use Rattle.std.specs.Prelude.{ℕ, List};
-ghost use Rattle.board_model.specs.declared.forecasts.Row.{Row};
-ghost use Rattle.board_model.specs.declared.boards.BoardEvent.{BoardEvent};
-ghost use Rattle.link_boards.specs.Rule.{Holds};
-ghost use Rattle.link_boards.specs.Views.{first_view, dealt, newcomer, courier, spent, informed, ended};
-ghost use Rattle.link_boards.specs.Plays.{draws_read, draws_publish, takes_turn, gives_turn};
+ghost use Rattle.board_model.specs.{declared.boards.BoardEvent.BoardEvent, declared.forecasts.Row.Row};
+ghost use Rattle.link_boards.specs.{Plays.draws_read, Plays.draws_publish, Plays.takes_turn, Plays.gives_turn, Rule.Holds, Views.first_view, Views.dealt, Views.newcomer, Views.courier, Views.spent, Views.informed, Views.ended};
 
 use crate::views::{Terms, View};
 use atomic_table::{Join, Play, Split, TableRule};

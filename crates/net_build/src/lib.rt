@@ -2,10 +2,8 @@
 #![tactic(auto)]
 
 ghost use Rattle.std.specs.Prelude.{IfOk, IfErr};
-ghost use Rattle.net_parts.specs.FirstFaults.{Refuses};
-ghost use Rattle.net_parts.specs.Numbers.{Net};
-ghost use Rattle.road_net.specs.FirstFaults.{IsDraftFault};
-ghost use Rattle.road_net.specs.Network.{IsNetworkOf};
+ghost use Rattle.net_parts.specs.{FirstFaults.Refuses, Numbers.Net};
+ghost use Rattle.road_net.specs.{FirstFaults.IsDraftFault, Network.IsNetworkOf};
 
 mod bounds;
 mod numbering;

@@ -1,16 +1,12 @@
 //! Numbers for the names of a draft.
 ghost use Rattle.std.specs.Prelude.{◌≡◌, ◌≢◌, ◌≤◌, ◌<◌, [], Some, IfOk, IfErr, IfSome, OnOk, All, Contains, length, map, count_by};
-ghost use Rattle.net_parts.specs.Limits.{most_conflicts, most_links, most_nodes};
-ghost use Rattle.foundation.specs.Firsts.{IsFirstAt, IsFirstNot, FromOne};
-ghost use Rattle.foundation.specs.Options.{each};
+ghost use Rattle.net_parts.specs.{Bounds.IsBoundedNode, Bounds.IsBoundedPhase, Bounds.IsBounded, FirstFaults.IsKnownPhase, FirstFaults.IsKnownNode, FirstFaults.HasKnownEnds, FirstFaults.HasKnownNames, FirstFaults.IsKnownTurn};
+ghost use Rattle.net_parts.specs.{FirstFaults.IsKnownLink, FirstFaults.IsKnownConflict, FirstFaults.IsUnknownInNode, FirstFaults.IsUnknownInLink, FirstFaults.IsUnknownFault, FirstFaults.FailsNumbers, FirstFaults.Refuses};
+ghost use Rattle.net_parts.specs.{Limits.most_conflicts, Limits.most_links, Limits.most_nodes, Numbers.Net, Numbers.number_of, Numbers.number_if, Numbers.yield_names, Numbers.yield_sat, Parts.net_of, Parts.IsNetOf};
+ghost use Rattle.foundation.specs.{Firsts.IsFirstAt, Firsts.IsFirstNot, Firsts.FromOne, Options.each};
 ghost use Rattle.phase_plan.specs.Phases.{is_unmarked};
-ghost use Rattle.net_parts.specs.Bounds.{IsBoundedNode, IsBoundedPhase, IsBounded};
-ghost use Rattle.net_parts.specs.FirstFaults.{IsKnownPhase, IsKnownNode, HasKnownEnds, HasKnownNames, IsKnownTurn, IsKnownLink, IsKnownConflict, IsUnknownInNode, IsUnknownInLink, IsUnknownFault, FailsNumbers, Refuses};
-ghost use Rattle.net_build.specs.Outcome.{AreAdded, Makes};
+ghost use Rattle.net_build.specs.{Outcome.AreAdded, Outcome.Makes, Stages.AreNames, Stages.AreTables, Stages.greens_of, Stages.phase_greens_of, Stages.net_with};
 ghost use Rattle.net_parts.specs.Numbers as spec;
-ghost use Rattle.net_parts.specs.Numbers.{Net, number_of, number_if, yield_names, yield_sat};
-ghost use Rattle.net_parts.specs.Parts.{net_of, IsNetOf};
-ghost use Rattle.net_build.specs.Stages.{AreNames, AreTables, greens_of, phase_greens_of, net_with};
 
 use foundation::items::Items;
 use foundation::text::Text;

@@ -1,15 +1,11 @@
 //! What one node does: it begins a round, reads and publishes; and it plans as soon as it has read all.
 ghost use Rattle.std.specs.Prelude.{◌≡◌, ℕ, ◌+◌, ◌*◌, ◌<◌, ◌≤◌, List, OnOk, length};
 ghost use Rattle.clusters.specs.Windows.{counts_of};
-ghost use Rattle.control_flow.specs.Greens.{end_of};
-ghost use Rattle.control_flow.specs.declared.greens.Green.{Green};
-ghost use Rattle.intersection_actor.specs.Acting.{begun, reading, tells_from, with_heard};
-ghost use Rattle.intersection_actor.specs.Rounds.{IsOf};
+ghost use Rattle.control_flow.specs.{Greens.end_of, declared.greens.Green.Green};
+ghost use Rattle.intersection_actor.specs.{Acting.begun, Acting.reading, Acting.tells_from, Acting.with_heard, Rounds.IsOf};
 ghost use Rattle.net_parts.specs.Limits.{most_rounds};
 ghost use Rattle.net_core.specs.Acts.{HasTold, Settles};
-ghost use Rattle.net_simulator.specs.Flow.{cumulative_under};
-ghost use Rattle.net_simulator.specs.Senses.{sense};
-ghost use Rattle.net_simulator.specs.Worlds.{IsWorldOf, Stands, signs_by};
+ghost use Rattle.net_simulator.specs.{Flow.cumulative_under, Senses.sense, Worlds.IsWorldOf, Worlds.Stands, Worlds.signs_by};
 ghost use Rattle.outflow.specs.Outflow.{departures, told_forecast};
 ghost use Rattle.road_net.specs.Network.{heard_links};
 

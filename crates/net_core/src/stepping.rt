@@ -2,8 +2,7 @@
 ghost use Rattle.std.specs.Prelude.{◌≡◌, ℕ, ◌+◌, ◌<◌, ◌≤◌, ◌++◌, ◌∷◌, [], ◌↔◌, All, List, IsTrue, OnOk, length, vec_capacity, vec_len};
 ghost use Rattle.arrivals.specs.Amounts.{AreArrivals};
 ghost use Rattle.intersection_actor.specs.declared.records.PlanRecord.{PlanRecord};
-ghost use Rattle.net_core.specs.States.{AllDone, AreBeginning, AreBetween, AreInRound, ArePlaying, AreResting, AreStarting, HasChanged};
-ghost use Rattle.net_core.specs.States.{Wants, WantsMore};
+ghost use Rattle.net_core.specs.{States.AllDone, States.AreBeginning, States.AreBetween, States.AreInRound, States.ArePlaying, States.AreResting, States.AreStarting, States.HasChanged, States.Wants, States.WantsMore};
 ghost use Rattle.runs.specs.Ending.{records_in};
 ghost use Rattle.schedule_meaning.specs.Best.{IsLeast};
 

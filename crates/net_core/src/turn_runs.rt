@@ -1,12 +1,9 @@
 //! The run of the turn order, of which neither the history nor the plans are kept.
 ghost use Rattle.std.specs.Prelude.{◌≡◌, ℕ, ◌+◌, ◌*◌, ◌<◌, ◌++◌, List, IfOk, OnOk, length, replicate};
 ghost use Rattle.arrivals.specs.Amounts.{AreArrivals, arriving_of};
-ghost use Rattle.histories.specs.Histories.{turns};
-ghost use Rattle.histories.specs.Steps.{board_steps};
+ghost use Rattle.histories.specs.{Histories.turns, Steps.board_steps};
 ghost use Rattle.intersection_actor.specs.declared.records.PlanRecord.{PlanRecord};
-ghost use Rattle.net_core.specs.States.{AllDone, AreAtFirst, AreBetween, AreInRound, ArePlaying, AreResting, AreTurned};
-ghost use Rattle.net_core.specs.States.{IsAtTurn, IsBlank, IsUnbegun};
-ghost use Rattle.net_core.specs.TurnRuns.{AreOfTurns};
+ghost use Rattle.net_core.specs.{States.AllDone, States.AreAtFirst, States.AreBetween, States.AreInRound, States.ArePlaying, States.AreResting, States.AreTurned, States.IsAtTurn, States.IsBlank, States.IsUnbegun, TurnRuns.AreOfTurns};
 
 use crate::first_parts::parts_of;
 use crate::parts::Parts;

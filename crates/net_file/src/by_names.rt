@@ -1,9 +1,7 @@
 //! The draft of a network by numbers: names stand for its numbers again.
 ghost use Rattle.std.specs.Prelude.{◌≡◌, ◌<◌, IfOk, IfSome, All, length, map, option_map};
 ghost use Rattle.std.specs.List.{range_with_len};
-ghost use Rattle.net_parts.specs.Numbers.{Net};
-ghost use Rattle.net_parts.specs.Outline.{IsOutline, link_at, plan_at, phases_at, also_at};
-ghost use Rattle.net_parts.specs.Parts.{net_of};
+ghost use Rattle.net_parts.specs.{Numbers.Net, Outline.IsOutline, Outline.link_at, Outline.plan_at, Outline.phases_at, Outline.also_at, Parts.net_of};
 ghost use Rattle.net_file.specs.ByNames as spec;
 ghost use Rattle.net_file.specs.ByNames.{name_in, AreNumbers};
 

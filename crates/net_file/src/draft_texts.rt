@@ -1,8 +1,6 @@
 //! The text of a road network: the table of a draft, and how it is printed.
 ghost use Rattle.std.specs.Prelude.{◌≡◌, ◌≤◌, Some, OnOk, IfOk, IsUtf8};
-ghost use Rattle.toml.specs.Data.{no_members, members_depth};
-ghost use Rattle.toml.specs.Parse.{parse_document};
-ghost use Rattle.toml.specs.View.{table_view};
+ghost use Rattle.toml.specs.{Data.no_members, Data.members_depth, Parse.parse_document, View.table_view};
 ghost use Rattle.net_file.specs.Written.{AreMembersOf, IsPrinted, IsTextOfDraft, Says};
 
 use crate::puts::put_number;

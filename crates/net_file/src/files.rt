@@ -1,11 +1,8 @@
 //! A network from its file, and the file of a network.
 ghost use Rattle.std.specs.Prelude.{◌↔◌, ◌≡◌, [], IsTrue, All, ◌<◌, ◌^◌, IfOk, IfErr, length};
-ghost use Rattle.net_parts.specs.Numbers.{Net};
+ghost use Rattle.net_parts.specs.{Numbers.Net, Parts.net_of};
 ghost use Rattle.net_tables.specs.Faults.{Unless};
-ghost use Rattle.net_file.specs.NetworkText.{IsNetworkText, IsCause};
-ghost use Rattle.net_file.specs.Reading.{Drafts};
-ghost use Rattle.net_file.specs.Upgrade.{IsPlain, IsSmall, IsVersionOf, IsUpgraded};
-ghost use Rattle.net_parts.specs.Parts.{net_of};
+ghost use Rattle.net_file.specs.{NetworkText.IsNetworkText, NetworkText.IsCause, Reading.Drafts, Upgrade.IsPlain, Upgrade.IsSmall, Upgrade.IsVersionOf, Upgrade.IsUpgraded};
 
 use crate::by_names::draft_by_names;
 use foundation::items::Items;

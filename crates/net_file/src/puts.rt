@@ -1,9 +1,7 @@
 //! What is put into a table: a value at a key.
 ghost use Rattle.std.specs.Prelude.{◌≡◌, OnOk};
-ghost use Rattle.toml.specs.Data.{boolean, string};
-ghost use Rattle.toml.specs.View.{view, table_view};
-ghost use Rattle.net_file.specs.Members.{with_member};
-ghost use Rattle.net_file.specs.Written.{HasNumber, HasNumberIf, HasTextIf, HasFlagIfTrue};
+ghost use Rattle.toml.specs.{Data.boolean, Data.string, View.view, View.table_view};
+ghost use Rattle.net_file.specs.{Members.with_member, Written.HasNumber, Written.HasNumberIf, Written.HasTextIf, Written.HasFlagIfTrue};
 
 use foundation::text::Text;
 use std::alloc::{AllocError, Global};

@@ -1,7 +1,6 @@
 //! The tables of a network file, each made of a part of the draft.
 ghost use Rattle.std.specs.Prelude.{ℕ, Option, Some, OnOk, IfOk};
-ghost use Rattle.toml.specs.Data.{Data};
-ghost use Rattle.toml.specs.View.{view, table_view, items_view};
+ghost use Rattle.toml.specs.{Data.Data, View.view, View.table_view, View.items_view};
 ghost use Rattle.net_tables.specs.Table as spec;
 ghost use Rattle.net_file.specs.Written.{IsDataOf, IsFilledWith, AreItemsOf, HasData, HasItems, HasItemsIfAny, HasYields, HasWalk, SaysPhase, SaysNode, SaysLink, Always, text_in, run_in};
 

@@ -1,8 +1,7 @@
 //! The tables of a network file as they stand: each with its keys and no other, each of its kind. The tables within a
 //! table are not yet read.
 ghost use Rattle.std.specs.Prelude.{◌≡◌, MatchOption, option_map, option_copied, map};
-ghost use Rattle.toml.specs.Data.{as_table};
-ghost use Rattle.toml.specs.View.{view, table_view};
+ghost use Rattle.toml.specs.{Data.as_table, View.view, View.table_view};
 ghost use Rattle.net_tables.specs.Forms.{raw_yields};
 ghost use Rattle.net_tables.specs.Parts as parts;
 ghost use Rattle.net_tables.specs.Table as spec;

@@ -1,15 +1,11 @@
 //! How the draft is read from the table of a network file.
 ghost use Rattle.std.specs.Prelude.{◌≡◌, ◌↔◌, ℕ, IsTrue, Option, option_map, option_copied, IfOk, IfErr, map};
-ghost use Rattle.toml.specs.Data.{Data, as_str};
-ghost use Rattle.toml.specs.View.{view, table_view};
+ghost use Rattle.toml.specs.{Data.Data, Data.as_str, View.view, View.table_view};
 ghost use Rattle.foundation.specs.Options.{each};
 ghost use Rattle.net_parts.specs.declared.faults.Place.{Place};
-ghost use Rattle.net_tables.specs.Faults.{Misses, Blames};
-ghost use Rattle.net_tables.specs.Forms.{raw_yields};
-ghost use Rattle.net_tables.specs.FirstShape.{IsShapeFault, ordinal};
-ghost use Rattle.net_tables.specs.Reading.{IsFaultAmong, IsNodeAtFault, IsPhaseAtFault, IsLinkAtFault, IsTurnAtFault, IsConflictAtFault};
+ghost use Rattle.net_tables.specs.{Faults.Misses, Faults.Blames, FirstShape.IsShapeFault, FirstShape.ordinal, Forms.raw_yields, Reading.IsFaultAmong, Reading.IsNodeAtFault, Reading.IsPhaseAtFault, Reading.IsLinkAtFault};
+ghost use Rattle.net_tables.specs.{Reading.IsTurnAtFault, Reading.IsConflictAtFault, Table.HasKnownVersion};
 ghost use Rattle.net_tables.specs.Table as spec;
-ghost use Rattle.net_tables.specs.Table.{HasKnownVersion};
 
 use crate::forms::{
     YieldForm, conflict_form, is_third, link_form, node_form, phase_form, run_of, top_form,

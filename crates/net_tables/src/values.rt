@@ -2,8 +2,7 @@
 ghost use Rattle.std.specs.Prelude.{◌≡◌, option_map, option_copied, map};
 ghost use Rattle.std.specs.List.{list_any};
 ghost use Rattle.std.specs.Str.{bytes_eq};
-ghost use Rattle.toml.specs.Data.{get_member, as_array};
-ghost use Rattle.toml.specs.View.{view, table_view};
+ghost use Rattle.toml.specs.{Data.get_member, Data.as_array, View.view, View.table_view};
 ghost use Rattle.net_tables.specs.Parts as parts;
 ghost use Rattle.net_tables.specs.Table as spec;
 

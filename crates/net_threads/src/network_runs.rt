@@ -7,8 +7,7 @@ ghost use Rattle.net_simulator.specs.Worlds.{Stands};
 ghost use Rattle.node_rounds.specs.Calls.{AreStepsOf, HaveCallsLeft, IsRunOfCalls, MergeToLawful};
 ghost use Rattle.runs.specs.Resting.{AreNew};
 ghost use Rattle.snap_boards.specs.Boards.{shared_of};
-ghost use Rattle.net_threads.specs.Ends.{AreEndsOf};
-ghost use Rattle.net_threads.specs.Tasks.{AreTasksOf, actors_in};
+ghost use Rattle.net_threads.specs.{Ends.AreEndsOf, Tasks.AreTasksOf, Tasks.actors_in};
 
 use crate::all_nodes::NodeTasks;
 use crate::rounds::Rounds;

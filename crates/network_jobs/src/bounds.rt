@@ -1,7 +1,6 @@
 //! The commands `bounds NET` and `bounds NET PLAN`.
 ghost use Rattle.command_words.specs.Calls.{Bounds, BoundsFixed};
-ghost use Rattle.commands.specs.Ending.{Makes};
-ghost use Rattle.commands.specs.Outcome.{Outcome};
+ghost use Rattle.commands.specs.{Ending.Makes, Outcome.Outcome};
 
 use super::bounds_text::bounds_text;
 use super::fixed_bounds_text::fixed_bounds_text;

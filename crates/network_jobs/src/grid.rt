@@ -1,12 +1,9 @@
 //! The command `grid NUMBER SIDE ROUNDS`.
 ghost use Rattle.std.specs.Prelude.{IfOk};
 ghost use Rattle.outside_world.specs.Shelf.{ShelfState};
-ghost use Rattle.scenario_gen.specs.Grids.{AreRounds};
-ghost use Rattle.scenario_gen.specs.Layout.{IsSide};
+ghost use Rattle.scenario_gen.specs.{Grids.AreRounds, Layout.IsSide};
 ghost use Rattle.command_words.specs.Calls.{Grid};
-ghost use Rattle.commands.specs.Ending.{Makes};
-ghost use Rattle.commands.specs.Headline.{IsGridSummary};
-ghost use Rattle.commands.specs.Outcome.{Outcome};
+ghost use Rattle.commands.specs.{Ending.Makes, Headline.IsGridSummary, Outcome.Outcome};
 
 use super::summary::summary;
 use commands::{Made, Refusal, Status, end, turn_totals};

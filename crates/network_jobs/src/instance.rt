@@ -4,11 +4,8 @@ ghost use Rattle.arrivals.specs.Amounts.{AreArrivals, arriving_of};
 ghost use Rattle.histories.specs.Histories.{IsLawful};
 ghost use Rattle.net_parts.specs.Numbers.{number_of};
 ghost use Rattle.command_words.specs.Calls.{Instance};
-ghost use Rattle.commands.specs.Ending.{Makes};
-ghost use Rattle.commands.specs.Headline.{IsPlannedText};
-ghost use Rattle.commands.specs.Outcome.{Outcome};
-ghost use Rattle.network_jobs.specs.Args.{call_with};
-ghost use Rattle.network_jobs.specs.Missing.{Misses};
+ghost use Rattle.commands.specs.{Ending.Makes, Headline.IsPlannedText, Outcome.Outcome};
+ghost use Rattle.network_jobs.specs.{Args.call_with, Missing.Misses};
 
 use arrivals::Arrivals;
 use commands::{Made, Named, Refusal, SceneWith, Status, end, fetch_scene_with, kept_run};

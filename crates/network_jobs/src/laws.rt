@@ -2,12 +2,9 @@
 ghost use Rattle.std.specs.Prelude.{◌≡◌, ℕ, List};
 ghost use Rattle.dp_certificate.specs.Certificates.{Claim};
 ghost use Rattle.schedule_meaning.specs.Instances.{Problem};
-ghost use Rattle.commands.specs.Kinds.{InstanceText};
-ghost use Rattle.commands.specs.Texts.{AllSaid, Reads};
+ghost use Rattle.commands.specs.{Commands.IsAcceptedText, Commands.IsTextOf, Commands.texts_of, Headline.AgreesWith, Kinds.InstanceText, Texts.AllSaid, Texts.Reads};
 ghost use Rattle.delay_report.specs.Texts.{IsHistoryText};
 ghost use Rattle.command_words.specs.Calls.{Certify, CertifyBound, Instance, Net, Replay, Turns};
-ghost use Rattle.commands.specs.Commands.{IsAcceptedText, IsTextOf, texts_of};
-ghost use Rattle.commands.specs.Headline.{AgreesWith};
 
 use delay_report::law_of_reports;
 use road_net::Network;

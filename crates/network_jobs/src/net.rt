@@ -1,7 +1,6 @@
 //! The command `net NET ARR`.
 ghost use Rattle.command_words.specs.Calls.{Net};
-ghost use Rattle.commands.specs.Ending.{Makes};
-ghost use Rattle.commands.specs.Outcome.{Outcome};
+ghost use Rattle.commands.specs.{Ending.Makes, Outcome.Outcome};
 
 use super::rounds::report;
 use board_model::Gate;

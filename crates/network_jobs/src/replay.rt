@@ -1,7 +1,6 @@
 //! The command `replay NET ARR HIST`.
 ghost use Rattle.command_words.specs.Calls.{Replay};
-ghost use Rattle.commands.specs.Ending.{Makes};
-ghost use Rattle.commands.specs.Outcome.{Outcome};
+ghost use Rattle.commands.specs.{Ending.Makes, Outcome.Outcome};
 
 use super::history_runs::report;
 use commands::{Made, Refusal, SceneWith, Status, end, fetch_scene_with};

@@ -2,9 +2,7 @@
 ghost use Rattle.std.specs.Prelude.{IfOk};
 ghost use Rattle.arrivals.specs.Amounts.{AreArrivals, arriving_of};
 ghost use Rattle.command_words.specs.Calls.{Totals};
-ghost use Rattle.commands.specs.Ending.{Makes};
-ghost use Rattle.commands.specs.Headline.{IsTotalsText};
-ghost use Rattle.commands.specs.Outcome.{Outcome};
+ghost use Rattle.commands.specs.{Ending.Makes, Headline.IsTotalsText, Outcome.Outcome};
 
 use arrivals::Arrivals;
 use commands::{Made, Refusal, Status, end, fetch_scene, turn_totals};

@@ -3,9 +3,7 @@ ghost use Rattle.std.specs.Prelude.{IfOk};
 ghost use Rattle.arrivals.specs.Amounts.{AreArrivals, arriving_of};
 ghost use Rattle.histories.specs.Histories as histories;
 ghost use Rattle.command_words.specs.Calls.{Turns};
-ghost use Rattle.commands.specs.Ending.{Makes};
-ghost use Rattle.commands.specs.Headline.{Headline};
-ghost use Rattle.commands.specs.Outcome.{Outcome};
+ghost use Rattle.commands.specs.{Ending.Makes, Headline.Headline, Outcome.Outcome};
 
 use super::history_runs::report;
 use arrivals::Arrivals;

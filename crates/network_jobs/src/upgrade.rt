@@ -1,7 +1,6 @@
 //! The command `upgrade NET`.
 ghost use Rattle.command_words.specs.Calls.{Upgrade};
-ghost use Rattle.commands.specs.Ending.{Makes};
-ghost use Rattle.commands.specs.Outcome.{Outcome};
+ghost use Rattle.commands.specs.{Ending.Makes, Outcome.Outcome};
 
 use commands::{Made, Refusal, Status, TextPlace, end, fetch};
 use net_file::write_network;

@@ -2,8 +2,7 @@
 ghost use Rattle.std.specs.Prelude.{◌≡◌, ℕ, ◌+◌, ◌<◌, ◌≤◌, [], IfOk, OnOk, length};
 ghost use Rattle.link_boards.specs.Passes as board;
 ghost use Rattle.histories.specs.Steps.{board_steps};
-ghost use Rattle.intersection_actor.specs.Acting.{reading, told_at};
-ghost use Rattle.intersection_actor.specs.Rounds.{IsOf};
+ghost use Rattle.intersection_actor.specs.{Acting.reading, Acting.told_at, Rounds.IsOf};
 ghost use Rattle.net_parts.specs.Numbers.{Net};
 ghost use Rattle.road_net.specs.Network.{heard_links, told_links};
 ghost use Rattle.node_rounds.specs.Nodes.{HasHeard, HasRead, HasSent, HasTold, IsSamePass};

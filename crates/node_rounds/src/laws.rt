@@ -1,11 +1,8 @@
 //! What the calls of the nodes' passes tell of all rounds.
 ghost use Rattle.std.specs.Prelude.{ℕ, List};
-ghost use Rattle.board_model.specs.declared.boards.Heard.{Heard};
-ghost use Rattle.board_model.specs.declared.calls.Call.{Call};
-ghost use Rattle.histories.specs.Histories.{IsLawful};
-ghost use Rattle.histories.specs.Steps.{board_steps, publisher};
+ghost use Rattle.board_model.specs.{declared.boards.Heard.Heard, declared.calls.Call.Call};
+ghost use Rattle.histories.specs.{Histories.IsLawful, Places.AreTold, Steps.board_steps, Steps.publisher};
 ghost use Rattle.intersection_actor.specs.Commits.{Commitment};
-ghost use Rattle.histories.specs.Places.{AreTold};
 ghost use Rattle.runs.specs.Runs.{HearAlong};
 ghost use Rattle.node_rounds.specs.Rounds.{AreCallsIn};
 

@@ -2,10 +2,8 @@
 ghost use Rattle.std.specs.Prelude.{◌≡◌, ◌+◌, ◌-◌, ◌<◌, ◌≤◌, ℕ, All, length, replicate, slice_get, slice_index, option_copied, sum_by};
 ghost use Rattle.net_parts.specs.Limits.{most_sat, most_seconds};
 ghost use Rattle.road_net.specs.Joins.{part_between, share_of};
-ghost use Rattle.clusters.specs.Sound.{AreOfNode};
-ghost use Rattle.clusters.specs.Windows.{counts_of};
-ghost use Rattle.outflow.specs.Outflow.{AreServed, departures, part_coming};
-ghost use Rattle.outflow.specs.Steps.{AreArriving, IsShareInto};
+ghost use Rattle.clusters.specs.{Sound.AreOfNode, Windows.counts_of};
+ghost use Rattle.outflow.specs.{Outflow.AreServed, Outflow.departures, Outflow.part_coming, Steps.AreArriving, Steps.IsShareInto};
 
 use crate::servings::Servings;
 use clusters::{Parts, Platoon, Window};

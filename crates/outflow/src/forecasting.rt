@@ -1,10 +1,8 @@
 //! Forecasts of what comes to the end of an exit link.
 ghost use Rattle.std.specs.Prelude.{◌≡◌, ◌+◌, ◌-◌, ◌<◌, ◌≤◌, ℕ, All, Contains, IfOk, length, slice_index};
 ghost use Rattle.std.specs.List.{range_with_len};
-ghost use Rattle.net_parts.specs.Limits.{most_look, most_seconds};
-ghost use Rattle.clusters.specs.Sound.{AreOfNode};
-ghost use Rattle.clusters.specs.Windows.{counts_of};
-ghost use Rattle.net_parts.specs.Outline.{link_at};
+ghost use Rattle.net_parts.specs.{Limits.most_look, Limits.most_seconds, Outline.link_at};
+ghost use Rattle.clusters.specs.{Sound.AreOfNode, Windows.counts_of};
 ghost use Rattle.outflow.specs.Outflow.{AreServed, departures, told_forecast, positive_rows};
 ghost use Rattle.road_net.specs.Network.{exit_links};
 

@@ -2,11 +2,8 @@
 
 ghost use Rattle.std.specs.Prelude.{◌≡◌, ◌<◌, ◌≤◌, ◌+◌, ◌⊎◌, ◌++◌, List, length, IfOk};
 ghost use Rattle.schedule_meaning.specs.Instances.{Problem};
-ghost use Rattle.dp_certificate.specs.Certificates.{AreRising, IsBefore, digits_of, entry_at};
-ghost use Rattle.dp_certificate.specs.Proves.{key_of_entry};
-ghost use Rattle.dp_certificate.specs.declared.Entry.{Entry as Line};
-ghost use Rattle.parallel_dp.specs.Joins.{EndsBefore, IsJoining};
-ghost use Rattle.parallel_dp.specs.Pieces.{IsJoinOf, IsNextOf};
+ghost use Rattle.dp_certificate.specs.{Certificates.AreRising, Certificates.IsBefore, Certificates.digits_of, Certificates.entry_at, Proves.key_of_entry, declared.Entry.Entry as Line};
+ghost use Rattle.parallel_dp.specs.{Joins.EndsBefore, Joins.IsJoining, Pieces.IsJoinOf, Pieces.IsNextOf};
 
 use dp_certificate::{Entry, place_of};
 use std::alloc::{AllocError, Global};

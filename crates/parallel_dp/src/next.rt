@@ -1,10 +1,8 @@
 //! What is next after entries.
 
 ghost use Rattle.std.specs.Prelude.{◌≡◌, ◌+◌, ◌*◌, ◌<◌, ◌≤◌, [], ◌∷◌, All, IfOk, false, length, true};
-ghost use Rattle.dp_certificate.specs.Certificates.{AreRising, IsEntry};
-ghost use Rattle.dp_certificate.specs.Places.{IsPlace};
-ghost use Rattle.parallel_dp.specs.Next.{AreReachedBy, HasKeyAt, HasNoKeyAt, IsPutInEither};
-ghost use Rattle.parallel_dp.specs.Pieces.{IsJoinOf, IsNextOf};
+ghost use Rattle.dp_certificate.specs.{Certificates.AreRising, Certificates.IsEntry, Places.IsPlace};
+ghost use Rattle.parallel_dp.specs.{Next.AreReachedBy, Next.HasKeyAt, Next.HasNoKeyAt, Next.IsPutInEither, Pieces.IsJoinOf, Pieces.IsNextOf};
 
 use crate::join_pieces;
 use crate::joins::{cheaper, law_of_keys};

@@ -2,12 +2,8 @@
 //! along the first phases.
 
 ghost use Rattle.std.specs.Prelude.{◌≡◌, ◌+◌, ◌↔◌, ◌<◌, ◌≤◌, [], All, Contains, IfNone, IfOk, IfSome, IsTrue, false, length, true};
-ghost use Rattle.schedule_meaning.specs.Best.{IsBest};
-ghost use Rattle.schedule_meaning.specs.Instances.{IsInstance};
-ghost use Rattle.dp_certificate.specs.Certificates.{AreRising, IsEntry};
-ghost use Rattle.dp_certificate.specs.Prefixes.{first_stage};
-ghost use Rattle.dp_certificate.specs.Proves.{stage_of_entry};
-ghost use Rattle.dp_certificate.specs.declared.Entry.{Entry as Line};
+ghost use Rattle.schedule_meaning.specs.{Best.IsBest, Instances.IsInstance};
+ghost use Rattle.dp_certificate.specs.{Certificates.AreRising, Certificates.IsEntry, Prefixes.first_stage, Proves.stage_of_entry, declared.Entry.Entry as Line};
 ghost use Rattle.parallel_dp.specs.Ways.{AreAllWays, AreLayers, AreThose, IsFirstBest, IsFirstWay, IsLeastDelay, IsOnWay, LeadsInto, NoneLeads, servings_of};
 
 use crate::joins::cheaper;

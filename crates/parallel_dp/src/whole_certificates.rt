@@ -2,13 +2,9 @@
 
 ghost use Rattle.std.specs.Prelude.{◌≡◌, ◌+◌, ◌<◌, ◌≤◌, IfOk, length};
 ghost use Rattle.switch_rules.specs.Bounds.{most_clusters, most_entries};
-ghost use Rattle.schedule_meaning.specs.Best.{IsBest};
-ghost use Rattle.dp_certificate.specs.Numbers.{sequence_of};
-ghost use Rattle.dp_certificate.specs.Proves.{Proves};
-ghost use Rattle.dp_certificate.specs.Whole.{IsWhole};
-ghost use Rattle.schedule_meaning.specs.Instances.{IsInstance};
-ghost use Rattle.parallel_dp.specs.Pieces.{IsLayer};
-ghost use Rattle.parallel_dp.specs.Ways.{AreLayers, servings_of};
+ghost use Rattle.schedule_meaning.specs.{Best.IsBest, Instances.IsInstance};
+ghost use Rattle.dp_certificate.specs.{Numbers.sequence_of, Proves.Proves, Whole.IsWhole};
+ghost use Rattle.parallel_dp.specs.{Pieces.IsLayer, Ways.AreLayers, Ways.servings_of};
 
 use crate::layers::{join_all, next_layer};
 use crate::ways::answer_of_layers;

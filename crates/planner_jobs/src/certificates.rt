@@ -3,8 +3,7 @@ ghost use Rattle.std.specs.Prelude.{◌≡◌, ◌<◌, ◌≤◌, IfOk, length}
 ghost use Rattle.switch_rules.specs.Bounds.{most_clusters, most_entries};
 ghost use Rattle.schedule_meaning.specs.Best.{IsBest};
 ghost use Rattle.dp_certificate.specs.Numbers as numbers;
-ghost use Rattle.dp_certificate.specs.Proves.{Proves};
-ghost use Rattle.dp_certificate.specs.Whole.{IsWhole};
+ghost use Rattle.dp_certificate.specs.{Proves.Proves, Whole.IsWhole};
 ghost use Rattle.pruned_dp.specs.Bounded.{IsBounded};
 
 use dp_certificate::Certificate;

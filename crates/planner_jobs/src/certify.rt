@@ -1,8 +1,7 @@
 //! The commands `certify FILE` and `certify_bound FILE`.
 ghost use Rattle.std.specs.Prelude.{◌≡◌};
 ghost use Rattle.command_words.specs.Calls.{Certify, CertifyBound};
-ghost use Rattle.commands.specs.Ending.{MakesCertificate};
-ghost use Rattle.commands.specs.Outcome.{Outcome};
+ghost use Rattle.commands.specs.{Ending.MakesCertificate, Outcome.Outcome};
 
 use crate::certificates::{Table, certificate_in_ledger};
 use crate::delivery::deliver;

@@ -1,9 +1,7 @@
 //! The command `certify_par FILE WIDTH`.
 ghost use Rattle.std.specs.Prelude.{◌≡◌, ℕ, ◌≤◌, List};
 ghost use Rattle.command_words.specs.Calls.{CertifyPar};
-ghost use Rattle.commands.specs.Commands.{IsWholeCertificate};
-ghost use Rattle.commands.specs.Ending.{MakesCertificate};
-ghost use Rattle.commands.specs.Outcome.{Outcome};
+ghost use Rattle.commands.specs.{Commands.IsWholeCertificate, Ending.MakesCertificate, Outcome.Outcome};
 ghost use Rattle.schedule_meaning.specs.Instances.{Problem};
 
 use crate::delivery::deliver;

@@ -4,8 +4,7 @@ ghost use Rattle.schedule_meaning.specs.Best.{IsLeast};
 ghost use Rattle.dp_certificate.specs.Proves.{Proves};
 ghost use Rattle.cert_checker.specs.Verdicts.{IfRejected, IsWhy};
 ghost use Rattle.command_words.specs.Calls.{Check};
-ghost use Rattle.commands.specs.Ending.{IsMadeOf, Makes};
-ghost use Rattle.commands.specs.Outcome.{Outcome};
+ghost use Rattle.commands.specs.{Ending.IsMadeOf, Ending.Makes, Outcome.Outcome};
 
 use super::verdicts::rejected_line;
 use cert_checker::Verdict;

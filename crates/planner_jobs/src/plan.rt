@@ -1,7 +1,6 @@
 //! The command `plan FILE`.
 ghost use Rattle.command_words.specs.Calls.{Plan};
-ghost use Rattle.commands.specs.Ending.{Makes};
-ghost use Rattle.commands.specs.Outcome.{Outcome};
+ghost use Rattle.commands.specs.{Ending.Makes, Outcome.Outcome};
 
 use super::answers::answer_text;
 use commands::{Made, Refusal, Status, TextPlace, end, fetch};

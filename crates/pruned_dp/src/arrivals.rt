@@ -2,8 +2,7 @@
 
 ghost use Rattle.std.specs.Prelude.{◌≡◌, ◌+◌, ◌≤◌, [], IfNone, IfOk, IfSome, length, sum};
 ghost use Rattle.schedule_meaning.specs.Instances.{IsInstance, counts_of};
-ghost use Rattle.pruned_dp.specs.Arrivals.{ComesNext, GoesByArrival, IsArrivalDelay, IsByArrival};
-ghost use Rattle.pruned_dp.specs.Firsts.{IsEarlier, IsFirstOf, IsNextArrival};
+ghost use Rattle.pruned_dp.specs.{Arrivals.ComesNext, Arrivals.GoesByArrival, Arrivals.IsArrivalDelay, Arrivals.IsByArrival, Firsts.IsEarlier, Firsts.IsFirstOf, Firsts.IsNextArrival};
 
 use foundation::steps::Steps;
 use schedule_meaning::{Instance, replay};

@@ -4,12 +4,8 @@
 
 ghost use Rattle.std.specs.Prelude.{◌≡◌, ◌+◌, ◌*◌, ◌≤◌, List, length, sum, IfOk};
 ghost use Rattle.switch_rules.specs.Bounds.{most_clusters, most_entries};
-ghost use Rattle.schedule_meaning.specs.Best.{IsBest, IsLeast};
-ghost use Rattle.schedule_meaning.specs.Instances.{counts_of};
-ghost use Rattle.schedule_meaning.specs.declared.planners.Answer.{Answer};
-ghost use Rattle.dp_certificate.specs.Numbers.{sequence_of};
-ghost use Rattle.dp_certificate.specs.Proves.{Proves};
-ghost use Rattle.dp_certificate.specs.declared.Entry.{Entry};
+ghost use Rattle.schedule_meaning.specs.{Best.IsBest, Best.IsLeast, Instances.counts_of, declared.planners.Answer.Answer};
+ghost use Rattle.dp_certificate.specs.{Numbers.sequence_of, Proves.Proves, declared.Entry.Entry};
 ghost use Rattle.pruned_dp.specs.Bounded.{IsBounded};
 
 mod arrivals;

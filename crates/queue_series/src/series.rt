@@ -3,10 +3,8 @@
 ghost use Rattle.std.specs.Prelude.{◌≡◌, ℕ, ◌<◌, [], ◌∷◌, IfOk, OnOk, if◌then◌else◌, length, map};
 ghost use Rattle.std.specs.List.{flat_map, range_with_len};
 ghost use Rattle.arrivals.specs.Amounts.{AreArrivals, arriving_of};
-ghost use Rattle.net_simulator.specs.Shown.{cumulative_of_lines};
-ghost use Rattle.net_simulator.specs.Counts.{counts_at};
+ghost use Rattle.net_simulator.specs.{Counts.counts_at, Shown.cumulative_of_lines, Worlds.Stands, Worlds.line_in, Worlds.signs_by};
 ghost use Rattle.net_simulator.specs.Sums as sums;
-ghost use Rattle.net_simulator.specs.Worlds.{Stands, line_in, signs_by};
 ghost use Rattle.world_records.specs.Written.{Adds};
 ghost use Rattle.queue_series.specs.Series.{IsSeries, peak_record, second_records};
 ghost use Rattle.queue_series.specs.LinkStates.{AreLinkStates, CanGoOn, HaveMoved, are_same, kept_records, peak_of, state_at, state_record};

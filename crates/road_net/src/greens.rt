@@ -1,11 +1,8 @@
 //! The phases in which links are green.
 ghost use Rattle.std.specs.Prelude.{◌≡◌, ◌<◌, ◌↔◌, IsTrue, [], length, slice_index_or};
 ghost use Rattle.std.specs.List.{list_any};
-ghost use Rattle.net_parts.specs.Numbers.{has_link};
-ghost use Rattle.net_parts.specs.Outline.{IsOutline, is_green_in};
-ghost use Rattle.net_parts.specs.Parts.{net_of};
-ghost use Rattle.road_net.specs.Joins.{AreNeverBoth};
-ghost use Rattle.road_net.specs.Through.{is_through, may_stay, names_staying};
+ghost use Rattle.net_parts.specs.{Numbers.has_link, Outline.IsOutline, Outline.is_green_in, Parts.net_of};
+ghost use Rattle.road_net.specs.{Joins.AreNeverBoth, Through.is_through, Through.may_stay, Through.names_staying};
 
 use foundation::items::Items;
 use net_parts::Parts;

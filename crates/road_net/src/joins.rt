@@ -1,8 +1,6 @@
 //! How the parts of a network are joined.
 ghost use Rattle.std.specs.Prelude.{◌≡◌, ◌≢◌, ◌≤◌, ◌<◌, ◌^◌, ◌↔◌, ℕ, IsTrue, IfOk, OnOk, IfSome, ◌++◌, ◌∷◌, Some, [], All, AllPairs, length, replicate, slice_index_or, sum_by};
-ghost use Rattle.net_parts.specs.Limits.{most_links, most_nodes};
-ghost use Rattle.net_parts.specs.Outline.{IsOutline};
-ghost use Rattle.net_parts.specs.Parts.{net_of};
+ghost use Rattle.net_parts.specs.{Limits.most_links, Limits.most_nodes, Outline.IsOutline, Parts.net_of};
 ghost use Rattle.road_net.specs.Stored.{TestsEach, clash_at, HasFewAt, IsPushedAt};
 ghost use Rattle.road_net.specs.Joins.{HasEndsAt, link_at, node_at, AreByNode, HasShares, HasSharesAt, share_of, times_named, IsPhased, IsPhasedAt, IsConflict, IsConflictAt};
 

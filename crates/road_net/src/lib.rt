@@ -2,12 +2,8 @@
 #![tactic(auto)]
 
 ghost use Rattle.std.specs.Prelude.{◌≡◌, ℕ, ◌<◌, IfErr, length};
-ghost use Rattle.net_parts.specs.Outline.{IsOutline};
-ghost use Rattle.net_parts.specs.Parts.{net_of};
-ghost use Rattle.road_net.specs.FirstFaults.{IsHomed, IsJoinFault};
-ghost use Rattle.road_net.specs.Joins.{AreByNode, HasEndsAt};
-ghost use Rattle.road_net.specs.Network.{IsNetwork, Joins};
-ghost use Rattle.road_net.specs.Stored.{IsStored, Links, Passes};
+ghost use Rattle.net_parts.specs.{Outline.IsOutline, Parts.net_of};
+ghost use Rattle.road_net.specs.{FirstFaults.IsHomed, FirstFaults.IsJoinFault, Joins.AreByNode, Joins.HasEndsAt, Network.IsNetwork, Network.Joins, Stored.IsStored, Stored.Links, Stored.Passes};
 
 mod greens;
 mod joins;
@@ -57,13 +53,9 @@ impl CrossesThreads for Network {}
 
 impl Network {
     ghost use Rattle.std.specs.Prelude.{◌≡◌, ◌≤◌, ◌<◌, ◌↔◌, Some, IsSome, IsNone, IfSome, Contains, sum_by, slice_get, length};
-    ghost use Rattle.net_parts.specs.Numbers.{number_of};
-    ghost use Rattle.net_parts.specs.Parts.{net_of};
-    ghost use Rattle.road_net.specs.Joins.{split_of, AreLinksAt, AreParts};
-    ghost use Rattle.net_parts.specs.Outline.{link_at, turns_at, yields_at, plan_at, phases_at, phase_links_at, also_links_at, is_green_in, known_seconds, node_name_at, link_name_at};
-    ghost use Rattle.road_net.specs.Network.{IsNetwork, entry_links, exit_links, AreApart};
-    ghost use Rattle.road_net.specs.Totals.{total};
-    ghost use Rattle.road_net.specs.Through.{is_through};
+    ghost use Rattle.net_parts.specs.{Numbers.number_of, Outline.link_at, Outline.turns_at, Outline.yields_at, Outline.plan_at, Outline.phases_at, Outline.phase_links_at, Outline.also_links_at, Outline.is_green_in, Outline.known_seconds};
+    ghost use Rattle.net_parts.specs.{Outline.node_name_at, Outline.link_name_at, Parts.net_of};
+    ghost use Rattle.road_net.specs.{Joins.split_of, Joins.AreLinksAt, Joins.AreParts, Network.IsNetwork, Network.entry_links, Network.exit_links, Network.AreApart, Through.is_through, Totals.total};
 
     /// The parts that it was made of.
     pub fn parts(&self) -> &Parts

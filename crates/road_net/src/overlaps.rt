@@ -1,10 +1,7 @@
 //! Further greens, links that give way, and walks.
 ghost use Rattle.std.specs.Prelude.{◌≡◌, ◌≢◌, ◌≤◌, ◌<◌, ◌+◌, ◌==◌, ◌↔◌, ℕ, IsTrue, IfSome, MatchOption, Some, [], All, AllPairs, length, count_by, slice_index_or, sum_by};
-ghost use Rattle.net_parts.specs.Numbers.{has_link};
-ghost use Rattle.net_parts.specs.Outline.{IsOutline, yields_at, also_links_at, plan_at};
-ghost use Rattle.net_parts.specs.Parts.{net_of};
-ghost use Rattle.road_net.specs.Stored.{TestsEach};
-ghost use Rattle.road_net.specs.Joins.{link_at, times_named, IsFurther, IsAlso, GivesWay, IsYield, HasLongGreens, IsWalk};
+ghost use Rattle.net_parts.specs.{Numbers.has_link, Outline.IsOutline, Outline.yields_at, Outline.also_links_at, Outline.plan_at, Parts.net_of};
+ghost use Rattle.road_net.specs.{Joins.link_at, Joins.times_named, Joins.IsFurther, Joins.IsAlso, Joins.GivesWay, Joins.IsYield, Joins.HasLongGreens, Joins.IsWalk, Stored.TestsEach};
 
 use crate::greens::{are_never_both, is_green};
 use crate::times::times_named;

@@ -1,8 +1,7 @@
 //! How often phases name links.
 ghost use Rattle.std.specs.Prelude.{◌≡◌, ◌+◌, ◌<◌, ◌^◌, ◌++◌, IfOk, OnOk, slice_index_or, slice_set};
 ghost use Rattle.std.specs.List.{concat};
-ghost use Rattle.road_net.specs.Joins.{named_links};
-ghost use Rattle.road_net.specs.Stored.{AreTimes};
+ghost use Rattle.road_net.specs.{Joins.named_links, Stored.AreTimes};
 
 use foundation::items::Items;
 use std::alloc::{AllocError, Global};

@@ -1,8 +1,7 @@
 //! The records of boards.
 ghost use Rattle.std.specs.Prelude.{◌≡◌, ◌<◌, [], ◌∷◌, IfSome, OnOk, if◌then◌else◌, length, map};
 ghost use Rattle.std.specs.List.{flat_map, range_with_len};
-ghost use Rattle.round_decisions.specs.DecisionTexts.{board_records, board_records_of, boards_records, is_shown, row_record, version_record};
-ghost use Rattle.round_decisions.specs.Turns.{board_of};
+ghost use Rattle.round_decisions.specs.{DecisionTexts.board_records, DecisionTexts.board_records_of, DecisionTexts.boards_records, DecisionTexts.is_shown, DecisionTexts.row_record, DecisionTexts.version_record, Turns.board_of};
 ghost use Rattle.world_records.specs.Written.{Adds};
 
 use board_model::Row;

@@ -3,10 +3,8 @@ ghost use Rattle.std.specs.Prelude.{◌≡◌, ◌<◌, ◌≤◌, [], ◌∷◌
 ghost use Rattle.std.specs.List.{flat_map};
 ghost use Rattle.net_parts.specs.Limits.{most_seconds};
 ghost use Rattle.round_decisions.specs.DecisionTexts as texts;
-ghost use Rattle.round_decisions.specs.DecisionTexts.{IsDecisionOf, IsNodeDecisionOf, decision_records, node_decision_records, turn_records};
-ghost use Rattle.round_decisions.specs.Promises.{decided_line};
-ghost use Rattle.round_states.specs.StateRecords.{header};
-ghost use Rattle.round_states.specs.States.{begin_of};
+ghost use Rattle.round_decisions.specs.{DecisionTexts.IsDecisionOf, DecisionTexts.IsNodeDecisionOf, DecisionTexts.decision_records, DecisionTexts.node_decision_records, DecisionTexts.turn_records, Promises.decided_line};
+ghost use Rattle.round_states.specs.{StateRecords.header, States.begin_of};
 ghost use Rattle.world_records.specs.Written.{Adds};
 
 use crate::board_records::write_boards;

@@ -1,17 +1,11 @@
 //! What decisions are in a run.
 ghost use Rattle.std.specs.Prelude.{ℕ, ◌<◌, List, Some, length};
-ghost use Rattle.round_states.specs.States.{IsStateOf};
-ghost use Rattle.round_states.specs.declared.asked.Asked.TheVariants.{AllNodes, OneNode};
+ghost use Rattle.round_states.specs.{States.IsStateOf, declared.asked.Asked.TheVariants.AllNodes, declared.asked.Asked.TheVariants.OneNode, declared.states.RoundState.RoundState};
 ghost use Rattle.board_model.specs.declared.boards.Heard.{Heard};
 ghost use Rattle.intersection_actor.specs.Commits.{Commitment};
-ghost use Rattle.round_states.specs.declared.states.RoundState.{RoundState};
 ghost use Rattle.histories.specs.Histories.{read_first};
-ghost use Rattle.runs.specs.Runs.{IsRun};
-ghost use Rattle.runs.specs.declared.records.RunRecord.{RunRecord};
-ghost use Rattle.round_decisions.specs.Chains.{IsChain, IsChainOf};
-ghost use Rattle.round_decisions.specs.Decisions.{IsDecision};
-ghost use Rattle.round_decisions.specs.OfRuns.{IsRoundIn, IsStateIn, IsTurnRun};
-ghost use Rattle.round_decisions.specs.Origins.{IsMovedDecision, IsMovedState, IsMovedTurn, IsTurnOf};
+ghost use Rattle.runs.specs.{Runs.IsRun, declared.records.RunRecord.RunRecord};
+ghost use Rattle.round_decisions.specs.{Chains.IsChain, Chains.IsChainOf, Decisions.IsDecision, OfRuns.IsRoundIn, OfRuns.IsStateIn, OfRuns.IsTurnRun, Origins.IsMovedDecision, Origins.IsMovedState, Origins.IsMovedTurn, Origins.IsTurnOf};
 ghost use Rattle.round_decisions.specs.OwnTurns.{
   HearsRoundBefore,
   IsOwnChain,
@@ -20,8 +14,7 @@ ghost use Rattle.round_decisions.specs.OwnTurns.{
   IsOwnStateIn,
   IsTurnIn,
 };
-ghost use Rattle.round_decisions.specs.declared.decisions.Decision.{Decision};
-ghost use Rattle.round_decisions.specs.declared.decisions.NodeDecision.{NodeDecision};
+ghost use Rattle.round_decisions.specs.{declared.decisions.Decision.Decision, declared.decisions.NodeDecision.NodeDecision};
 
 use road_net::{Network, law_of_network};
 

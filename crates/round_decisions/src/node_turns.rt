@@ -1,13 +1,10 @@
 //! A node's turn: it senses, hears what stands on the boards, plans, and publishes what it tells.
 ghost use Rattle.std.specs.Prelude.{◌≡◌, ℕ, ◌+◌, ◌<◌, ◌≤◌, [], ◌∷◌, All, IfOk, OnOk, length};
 ghost use Rattle.control_flow.specs.Greens.{end_of};
-ghost use Rattle.intersection_actor.specs.Acting.{reading, tells_from, wanting, with_heard};
-ghost use Rattle.intersection_actor.specs.Rounds.{IsOf};
-ghost use Rattle.net_parts.specs.Limits.{most_seconds};
-ghost use Rattle.net_parts.specs.Numbers.{Net};
+ghost use Rattle.intersection_actor.specs.{Acting.reading, Acting.tells_from, Acting.wanting, Acting.with_heard, Rounds.IsOf};
+ghost use Rattle.net_parts.specs.{Limits.most_seconds, Numbers.Net};
 ghost use Rattle.round_states.specs.States.{begin_of};
-ghost use Rattle.round_decisions.specs.Steps.{CanTurn, HasHeard, HasPlayed, MayTell, outgoing};
-ghost use Rattle.round_decisions.specs.Turns.{ArePublished, IsTurn, next_board};
+ghost use Rattle.round_decisions.specs.{Steps.CanTurn, Steps.HasHeard, Steps.HasPlayed, Steps.MayTell, Steps.outgoing, Turns.ArePublished, Turns.IsTurn, Turns.next_board};
 
 use board_model::Heard;
 use control_flow::greens::Timeline;

@@ -1,10 +1,7 @@
 //! What every run keeps.
 ghost use Rattle.std.specs.Prelude.{◌≡◌, ℕ, List};
 ghost use Rattle.histories.specs.Histories.{IsLawful};
-ghost use Rattle.runs.specs.Promises.{KeepsPromises};
-ghost use Rattle.runs.specs.Runs.{IsRun};
-ghost use Rattle.runs.specs.Complete.{IsComplete};
-ghost use Rattle.runs.specs.declared.records.RunRecord.{RunRecord};
+ghost use Rattle.runs.specs.{Complete.IsComplete, Promises.KeepsPromises, Runs.IsRun, declared.records.RunRecord.RunRecord};
 
 use road_net::{Network, law_of_network};
 

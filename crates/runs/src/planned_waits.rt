@@ -6,8 +6,7 @@ ghost use Rattle.net_parts.specs.Numbers.{Net};
 ghost use Rattle.net_simulator.specs.Sums.{end_of_run};
 ghost use Rattle.road_net.specs.Network.{IsNetwork};
 ghost use Rattle.runs.specs.Runs.{AllCommit, line_before, cumulative_by};
-ghost use Rattle.waits.specs.Bounds.{planned_bounds};
-ghost use Rattle.waits.specs.Discharges.{AreEmptied, AreWaitsWithin, AreWholeLines, intergreens_of};
+ghost use Rattle.waits.specs.{Bounds.planned_bounds, Discharges.AreEmptied, Discharges.AreWaitsWithin, Discharges.AreWholeLines, Discharges.intergreens_of};
 
 /// The last timelines of a run are lawful and show all of it, and their intergreens are no longer than the nodes look ahead, or
 /// than yellow and all-red take.

@@ -3,9 +3,8 @@ ghost use Rattle.std.specs.Prelude.{◌≡◌, ◌*◌, ◌<◌, ◌++◌, IfOk,
 ghost use Rattle.std.specs.List.{flat_map};
 ghost use Rattle.std.specs.Option.{option_map};
 ghost use Rattle.scenario_gen.specs.Drafts as drafts;
-ghost use Rattle.scenario_gen.specs.Drafts.{conflict, conflicts_of, grid_draft, road_name};
+ghost use Rattle.scenario_gen.specs.{Drafts.conflict, Drafts.conflicts_of, Drafts.grid_draft, Drafts.road_name, Layout.IsSide};
 ghost use Rattle.scenario_gen.specs.Layout as layout;
-ghost use Rattle.scenario_gen.specs.Layout.{IsSide};
 
 use crate::layout::{Direction, Kind, Road, phase_roads, roads};
 use foundation::items::Items;

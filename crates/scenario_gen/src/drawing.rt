@@ -1,12 +1,10 @@
 //! What enters a square grid: words are drawn one after another, and decide.
 ghost use Rattle.std.specs.Prelude.{◌≡◌, ◌<◌, ◌≤◌, ◌++◌, ◌∷◌, [], IfOk, OnOk, if◌then◌else◌, false, is_none, length};
-ghost use Rattle.net_parts.specs.Limits.{limits};
-ghost use Rattle.net_parts.specs.Outline.{link_at};
+ghost use Rattle.net_parts.specs.{Limits.limits, Outline.link_at};
 ghost use Rattle.road_net.specs.Network.{IsNetwork};
 ghost use Rattle.arrivals.specs.Rows.{AreRows};
 ghost use Rattle.scenario_gen.specs.Arrivals as words;
-ghost use Rattle.scenario_gen.specs.Arrivals.{after_words, row_by, rows_of_second};
-ghost use Rattle.scenario_gen.specs.Grids.{AreRounds};
+ghost use Rattle.scenario_gen.specs.{Arrivals.after_words, Arrivals.row_by, Arrivals.rows_of_second, Grids.AreRounds};
 
 use arrivals::ArrivalRow;
 use rand_core::utils::NextWord;

@@ -4,9 +4,7 @@ ghost use Rattle.net_parts.specs.Limits.{limits};
 ghost use Rattle.road_net.specs.Network.{IsNetworkOf};
 ghost use Rattle.arrivals.specs.Amounts.{AreArrivals, AreArrivalsOf};
 ghost use Rattle.scenario_gen.specs.Arrivals as words;
-ghost use Rattle.scenario_gen.specs.Drafts.{grid_draft};
-ghost use Rattle.scenario_gen.specs.Grids.{AreRounds, HasGrid, IsGrid};
-ghost use Rattle.scenario_gen.specs.Layout.{IsSide};
+ghost use Rattle.scenario_gen.specs.{Drafts.grid_draft, Grids.AreRounds, Grids.HasGrid, Grids.IsGrid, Layout.IsSide};
 
 use crate::drafting::draft;
 use crate::drawing::rows;

@@ -3,11 +3,8 @@
 ghost use Rattle.std.specs.Prelude.{◌≡◌, ◌+◌, ◌^◌, ◌<◌, ◌≤◌, All, length, map, sum, take, IfOk, IfErr, IfNone, IfSome, IsTrue, OnOk, ◌↔◌};
 ghost use Rattle.foundation.specs.Firsts.{IsFirstWithout};
 ghost use Rattle.phase_plan.specs.Phases.{IsRing};
-ghost use Rattle.switch_rules.specs.Bounds.{latest_arrival, most_clusters, most_orders};
-ghost use Rattle.switch_rules.specs.Serving.{IsHead, IsCluster};
-ghost use Rattle.switch_rules.specs.Orders.{orders};
-ghost use Rattle.schedule_meaning.specs.Instances.{IsSpaced, cluster_at, counts_of};
-ghost use Rattle.schedule_meaning.specs.Faults.{AreMany, IsBoundFault, IsHeadFault, IsOrderFault, IsSpacedAt};
+ghost use Rattle.switch_rules.specs.{Bounds.latest_arrival, Bounds.most_clusters, Bounds.most_orders, Orders.orders, Serving.IsHead, Serving.IsCluster};
+ghost use Rattle.schedule_meaning.specs.{Faults.AreMany, Faults.IsBoundFault, Faults.IsHeadFault, Faults.IsOrderFault, Faults.IsSpacedAt, Instances.IsSpaced, Instances.cluster_at, Instances.counts_of};
 
 use super::faults::InstanceFault;
 use foundation::items::Items;
@@ -45,8 +42,7 @@ impl CrossesThreads for Instance {}
 impl Instance {
     ghost use Rattle.std.specs.Prelude.{◌≡◌, ◌^◌, ◌<◌, All, length, IfOk, IfErr, OnErr, vec_len};
     ghost use Rattle.switch_rules.specs.Serving.{IsCluster};
-    ghost use Rattle.schedule_meaning.specs.Instances.{IsInstance, counts_of, list_at};
-    ghost use Rattle.schedule_meaning.specs.Faults.{IsInstanceFault};
+    ghost use Rattle.schedule_meaning.specs.{Faults.IsInstanceFault, Instances.IsInstance, Instances.counts_of, Instances.list_at};
 
     /// The instance of these parts, where all bounds hold. The fault is the first in the order of
     /// `InstanceFault`, and there the one of the first phase and the first place. Each list has fewer

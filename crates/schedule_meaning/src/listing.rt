@@ -2,8 +2,7 @@
 
 ghost use Rattle.std.specs.Prelude.{◌≡◌, ◌≢◌, ◌^◌, ◌<◌, IfErr, IfOk, None, Some, length};
 ghost use Rattle.std.specs.Option.{option_map};
-ghost use Rattle.schedule_meaning.specs.Listing.{IsServingsFault};
-ghost use Rattle.schedule_meaning.specs.Timing.{timed, timing};
+ghost use Rattle.schedule_meaning.specs.{Listing.IsServingsFault, Timing.timed, Timing.timing};
 
 use super::faults::SeqFault;
 use super::instances::Instance;

@@ -3,10 +3,7 @@
 ghost use Rattle.std.specs.Prelude.{◌≡◌, ◌<◌, ◌^◌, ℕ, ◌++◌, List, IfOk, OnOk, Some, sum};
 ghost use Rattle.std.specs.Option.{option_map};
 ghost use Rattle.switch_rules.specs.Orders.{orders};
-ghost use Rattle.schedule_meaning.specs.Timing.{IsUnderWay, onward, timed_from, timing};
-ghost use Rattle.schedule_meaning.specs.declared.planners.Answer.{Answer};
-ghost use Rattle.schedule_meaning.specs.Best.{IsBest, IsLeast};
-ghost use Rattle.schedule_meaning.specs.Choice.{best_after, better};
+ghost use Rattle.schedule_meaning.specs.{Best.IsBest, Best.IsLeast, Choice.best_after, Choice.better, Timing.IsUnderWay, Timing.onward, Timing.timed_from, Timing.timing, declared.planners.Answer.Answer};
 
 use super::instances::Instance;
 use super::replays::next_cluster;

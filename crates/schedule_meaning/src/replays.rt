@@ -3,9 +3,7 @@
 ghost use Rattle.std.specs.Prelude.{◌≡◌, ◌≢◌, ℕ, ◌+◌, ◌^◌, ◌<◌, ◌≤◌, All, IfNone, IfOk, IfErr, IfSome, OnErr, OnOk, take, Some, None, length, slice_index};
 ghost use Rattle.foundation.specs.Firsts.{IsFirstWithout};
 ghost use Rattle.switch_rules.specs.Serving.{IsCluster};
-ghost use Rattle.schedule_meaning.specs.Instances.{IsInstance, counts_of, list_at};
-ghost use Rattle.schedule_meaning.specs.Faults.{IsSeqFault};
-ghost use Rattle.schedule_meaning.specs.Timing.{next_cluster, timed, times_of, timing};
+ghost use Rattle.schedule_meaning.specs.{Faults.IsSeqFault, Instances.IsInstance, Instances.counts_of, Instances.list_at, Timing.next_cluster, Timing.timed, Timing.times_of, Timing.timing};
 
 use super::faults::SeqFault;
 use super::instances::Instance;

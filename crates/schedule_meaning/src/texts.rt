@@ -2,8 +2,7 @@
 
 ghost use Rattle.std.specs.Prelude.{◌≡◌, ◌^◌, ◌<◌, IfOk, IfErr, OnErr, MatchResult, length, vec_len};
 ghost use Rattle.instance_form.specs.InstanceText.{instance_text};
-ghost use Rattle.schedule_meaning.specs.Instances.{Problem, IsInstance};
-ghost use Rattle.schedule_meaning.specs.Texts.{IsTextFault, IsOutOfMemory, IsInstanceText, IsPlanWhere, IsPlanFaultWhere};
+ghost use Rattle.schedule_meaning.specs.{Instances.Problem, Instances.IsInstance, Texts.IsTextFault, Texts.IsOutOfMemory, Texts.IsInstanceText, Texts.IsPlanWhere, Texts.IsPlanFaultWhere};
 
 use super::faults::InstanceFault;
 use super::instances::Instance;

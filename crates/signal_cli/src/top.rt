@@ -1,8 +1,7 @@
 //! The top call: the arguments of the command line, and what is done.
 ghost use Rattle.std.specs.Prelude.{◌≡◌, ◌≢◌, ◌↔◌};
 ghost use Rattle.command_words.specs.Calls.{Call, IsCall, IsOfControllers, IsOverNetwork, IsWithin, call_of};
-ghost use Rattle.commands.specs.Outcome.{Outcome};
-ghost use Rattle.commands.specs.Refusals.{Says};
+ghost use Rattle.commands.specs.{Outcome.Outcome, Refusals.Says};
 ghost use Rattle.commands.specs.declared.refusals.Refusal.TheVariants as refusal;
 
 use audit_jobs::{audit_job, queues_job};

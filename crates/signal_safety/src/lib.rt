@@ -2,13 +2,10 @@
 #![tactic(auto)]
 
 ghost use Rattle.std.specs.Prelude.{ℕ, ◌<◌, List, All, length};
-ghost use Rattle.control_flow.specs.Greens.{IsLawful};
-ghost use Rattle.control_flow.specs.declared.greens.Green.{Green};
-ghost use Rattle.net_parts.specs.Numbers.{Net};
-ghost use Rattle.net_parts.specs.Outline.{plan_at};
+ghost use Rattle.control_flow.specs.{Greens.IsLawful, declared.greens.Green.Green};
+ghost use Rattle.net_parts.specs.{Numbers.Net, Outline.plan_at};
 ghost use Rattle.road_net.specs.Network.{IsNetwork};
-ghost use Rattle.signal_safety.specs.Rows.{AreRowsApart};
-ghost use Rattle.signal_safety.specs.Safe.{IsSafe};
+ghost use Rattle.signal_safety.specs.{Rows.AreRowsApart, Safe.IsSafe};
 
 /// Lawful timelines, one for each node of a network, make the network safe: no two links in conflict are ever green together, and
 /// each is green only after the yellow and all-red of every earlier green of the other.

@@ -3,8 +3,7 @@ ghost use Rattle.std.specs.Prelude.{◌≡◌, ◌≤◌, ◌<◌, ◌^◌, [], 
 ghost use Rattle.std.specs.List.{sum};
 ghost use Rattle.board_model.specs.Boards.{most_versions};
 ghost use Rattle.link_boards.specs.Passes.{AreAllPasses, AreLogsOfPasses, fresh_passes};
-ghost use Rattle.snap_boards.specs.Boards.{AreAllEnds, shared_of};
-ghost use Rattle.snap_boards.specs.Slots.{is_settled};
+ghost use Rattle.snap_boards.specs.{Boards.AreAllEnds, Boards.shared_of, Slots.is_settled};
 
 use crate::ends::Ends;
 use crate::slots::SnapLog;

@@ -1,7 +1,6 @@
 //! Copies of forecasts, and what a caller runs inside them.
 ghost use Rattle.std.specs.Prelude.{◌≡◌, ◌<◌, [], ◌∷◌, ◌++◌, length};
-ghost use Rattle.board_model.specs.declared.forecasts.Row.{Row};
-ghost use Rattle.board_model.specs.Forecasts.{IsAboveLast, IsRow, most_rows, seconds};
+ghost use Rattle.board_model.specs.{Forecasts.IsAboveLast, Forecasts.IsRow, Forecasts.most_rows, Forecasts.seconds, declared.forecasts.Row.Row};
 ghost use Rattle.snap_boards.specs.Slots.{forecast_in};
 
 use crate::ready::{Beside, Ready};

@@ -2,10 +2,8 @@
 
 ghost use Rattle.std.specs.Prelude.{◌≡◌, ℕ, length};
 ghost use Rattle.control_flow.specs.declared.greens.Sign.{Sign};
-ghost use Rattle.actuated.specs.Rounds.{AreAmounts};
-ghost use Rattle.actuated.specs.RunsSoFar.{AreNear};
-ghost use Rattle.spillback_world.specs.Storage.{cumulative_in};
-ghost use Rattle.spillback_world.specs.Worlds.{IsWorldOf, Stands};
+ghost use Rattle.actuated.specs.{Rounds.AreAmounts, RunsSoFar.AreNear};
+ghost use Rattle.spillback_world.specs.{Storage.cumulative_in, Worlds.IsWorldOf, Worlds.Stands};
 
 use road_net::Network;
 use spillback_world::SpillWorld;

@@ -6,8 +6,7 @@ ghost use Rattle.arrivals.specs.Amounts.{AreArrivals, arriving_of};
 ghost use Rattle.audit.specs.Audits.{AreLawful};
 ghost use Rattle.net_simulator.specs.Worlds.{line_in};
 ghost use Rattle.signal_safety.specs.Safe.{IsSafe};
-ghost use Rattle.spillback_control.specs.SpillRounds.{HaveSpilled};
-ghost use Rattle.spillback_control.specs.SpillRuns.{CountsLastLines, IsActuatedIn, IsSpillRun, LastLinesShow, last_lines};
+ghost use Rattle.spillback_control.specs.{SpillRounds.HaveSpilled, SpillRuns.CountsLastLines, SpillRuns.IsActuatedIn, SpillRuns.IsSpillRun, SpillRuns.LastLinesShow, SpillRuns.last_lines};
 ghost use Rattle.spillback_world.specs.StoredTotals.{IsBalanced};
 ghost use Rattle.spillback_world.specs.declared.totals.SpillTotals as spec;
 

@@ -2,10 +2,9 @@
 #![tactic(auto)]
 
 ghost use Rattle.std.specs.Prelude.{◌≡◌, ◌+◌, ◌^◌, ◌<◌, ◌≤◌, length, IfOk, min, sum};
-ghost use Rattle.switch_rules.specs.Bounds.{greatest_cost, latest_time, most_orders};
-ghost use Rattle.switch_rules.specs.Orders.{orders, choose, mixtures};
+ghost use Rattle.switch_rules.specs.{Bounds.greatest_cost, Bounds.latest_time, Bounds.most_orders, Orders.orders, Orders.choose, Orders.mixtures, Serving.IsHead, Serving.IsCluster, Serving.IsServing, Serving.IsTimed, Serving.earliest_end};
+ghost use Rattle.switch_rules.specs.{Serving.head_after, Serving.serving, Serving.served_from, Serving.start_in_green};
 ghost use Rattle.phase_plan.specs.Phases.{IsPhase};
-ghost use Rattle.switch_rules.specs.Serving.{IsHead, IsCluster, IsServing, IsTimed, earliest_end, head_after, serving, served_from, start_in_green};
 
 mod bounds;
 

@@ -1,7 +1,6 @@
 //! What the ends of a slot do.
 ghost use Rattle.std.specs.Prelude.{◌≡◌, ◌≢◌, true, false, None, Some, IfNone, IfOk, IfSome};
-ghost use Rattle.task_pool.specs.Places.{IsBack};
-ghost use Rattle.task_pool.specs.Known.{IsOpen, IsOwnerOf, IsWorkerOf, found_closed, has_closed, laid_of, taken_of};
+ghost use Rattle.task_pool.specs.{Known.IsOpen, Known.IsOwnerOf, Known.IsWorkerOf, Known.found_closed, Known.has_closed, Known.laid_of, Known.taken_of, Places.IsBack};
 
 use crate::rule::{Begin, Close, Lay, Look, PutBack, SeatWorker, TakeBack, TakeTask};
 use crate::slot::{Slot, SlotOwner, SlotWorker};

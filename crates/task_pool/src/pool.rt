@@ -1,8 +1,7 @@
 //! A pool of threads that last.
 ghost use Rattle.std.specs.Prelude.{◌≡◌, IfOk, All, length, vec_len};
 ghost use denote.Param.Send.{IsSend, IsSync};
-ghost use Rattle.task_pool.specs.Known.{AreCallerEnds, AreClosed, AreEmpty, AreOwnersOf, AreWorkersOf};
-ghost use Rattle.task_pool.specs.Threads.{AreThreadsOf};
+ghost use Rattle.task_pool.specs.{Known.AreCallerEnds, Known.AreClosed, Known.AreEmpty, Known.AreOwnersOf, Known.AreWorkersOf, Threads.AreThreadsOf};
 
 use crate::runner::TaskRunner;
 use crate::slot::{Slot, SlotOwner, SlotWorker};
@@ -35,8 +34,7 @@ pub struct TaskPool<T: Task> {
 
 impl<T: Task> Model for TaskPool<T> {
     ghost use Rattle.std.specs.Prelude.{ℕ, length};
-    ghost use Rattle.task_pool.specs.Known.{AreCallerEnds};
-    ghost use Rattle.task_pool.specs.Threads.{AreThreadsOf};
+    ghost use Rattle.task_pool.specs.{Known.AreCallerEnds, Threads.AreThreadsOf};
 
     ghost Value = { ℕ };
 

@@ -1,7 +1,5 @@
 //! The rule of a slot's table, and the names of its steps.
-ghost use Rattle.task_pool.specs.Plays.{begins, closes, lays, looks, puts_back, takes_back, takes_task};
-ghost use Rattle.task_pool.specs.Rule.{Holds};
-ghost use Rattle.task_pool.specs.Views.{first_view, worker_view};
+ghost use Rattle.task_pool.specs.{Plays.begins, Plays.closes, Plays.lays, Plays.looks, Plays.puts_back, Plays.takes_back, Plays.takes_task, Rule.Holds, Views.first_view, Views.worker_view};
 
 use crate::task::Task;
 use crate::views::View;

@@ -1,7 +1,6 @@
 //! The slots as the calling thread sees them.
 ghost use Rattle.std.specs.Prelude.{◌≡◌, ◌≤◌, [], All, vec_len, vec_capacity, length};
-ghost use Rattle.task_pool.specs.Batch.{AreDone};
-ghost use Rattle.task_pool.specs.Known.{AreAllLaid, AreClosed, AreEmpty, AreLaid, AreOwnersOf, AreTakenBack};
+ghost use Rattle.task_pool.specs.{Batch.AreDone, Known.AreAllLaid, Known.AreClosed, Known.AreEmpty, Known.AreLaid, Known.AreOwnersOf, Known.AreTakenBack};
 
 use crate::slot::{Slot, SlotOwner, SlotWorker};
 use crate::task::Task;

@@ -1,13 +1,11 @@
 //! Within how many seconds each queue of a phase, of a link without a walk, loses something, or why there is no such bound.
 ghost use Rattle.std.specs.Prelude.{◌≡◌, ◌++◌, ◌+◌, ◌-◌, ◌*◌, ◌<◌, ◌≤◌, nat_lt, if◌then◌else◌, IfOk, IfSome, OnOk, Ok, Err, length, max, sum_by};
 ghost use Rattle.std.specs.List.{range_with_len};
-ghost use Rattle.net_parts.specs.Limits.{most_look};
-ghost use Rattle.net_parts.specs.Outline.{plan_at};
+ghost use Rattle.net_parts.specs.{Limits.most_look, Outline.plan_at};
 ghost use Rattle.phase_plan.specs.Phases.{IsPhase};
 ghost use Rattle.waits.specs.Bounds as spec;
-ghost use Rattle.waits.specs.Bounds.{most_until};
+ghost use Rattle.waits.specs.{Bounds.most_until, Waits.longest_span};
 ghost use Rattle.waits.specs.Discharges as discharges;
-ghost use Rattle.waits.specs.Waits.{longest_span};
 ghost use Rattle.waits.specs.Waits as waits;
 
 use foundation::threads::CrossesThreads;

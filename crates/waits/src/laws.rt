@@ -1,24 +1,14 @@
 //! What lawful timelines promise of greens and queues, where the intergreens are within bounds.
 ghost use Rattle.std.specs.Prelude.{◌≡◌, ℕ, ◌+◌, ◌<◌, ◌≤◌, All, Bool, IsTrue, List, Some, length};
-ghost use Rattle.control_flow.specs.Greens.{GoesOn, IsLawful, end_of, head_at, row_at, spliced};
-ghost use Rattle.control_flow.specs.Timelines.{AreServings, line_of, turned};
+ghost use Rattle.control_flow.specs.{Greens.GoesOn, Greens.IsLawful, Greens.end_of, Greens.head_at, Greens.row_at, Greens.spliced, Recalls.without_marks, Timelines.AreServings, Timelines.line_of, Timelines.turned};
 ghost use Rattle.control_flow.specs.declared.greens.Green.{Green};
 ghost use Rattle.net_parts.specs.Numbers.{Net};
-ghost use Rattle.net_simulator.specs.Flow.{cumulative_under};
-ghost use Rattle.net_simulator.specs.Worlds.{signs_by};
-ghost use Rattle.phase_plan.specs.Phases.{IsRing, is_unmarked_at};
-ghost use Rattle.phase_plan.specs.declared.Phase.{Phase};
+ghost use Rattle.net_simulator.specs.{Flow.cumulative_under, Worlds.signs_by};
+ghost use Rattle.phase_plan.specs.{Phases.IsRing, Phases.is_unmarked_at, declared.Phase.Phase};
 ghost use Rattle.road_net.specs.Network.{IsNetwork};
-ghost use Rattle.switch_rules.specs.Sequences.{AreNextServings};
-ghost use Rattle.switch_rules.specs.Serving.{IsHead};
-ghost use Rattle.switch_rules.specs.declared.Cluster.{Cluster};
-ghost use Rattle.switch_rules.specs.declared.Head.{Head};
-ghost use Rattle.switch_rules.specs.declared.Served.{Served};
-ghost use Rattle.waits.specs.Discharges.{AreEmptied, AreWaitsWithin, AreWholeLines, wait_bounds};
-ghost use Rattle.control_flow.specs.Recalls.{without_marks};
-ghost use Rattle.waits.specs.Rounds.{AreRounds};
-ghost use Rattle.waits.specs.Waits.{AreIntergreensWithin, BeginSoon, IsGreenBy, IsGreenWithin};
-ghost use Rattle.waits.specs.Waits.{longest_intergreen, longest_red};
+ghost use Rattle.switch_rules.specs.{Sequences.AreNextServings, Serving.IsHead, declared.Cluster.Cluster, declared.Head.Head, declared.Served.Served};
+ghost use Rattle.waits.specs.{Discharges.AreEmptied, Discharges.AreWaitsWithin, Discharges.AreWholeLines, Discharges.wait_bounds, Rounds.AreRounds, Waits.AreIntergreensWithin, Waits.BeginSoon, Waits.IsGreenBy, Waits.IsGreenWithin};
+ghost use Rattle.waits.specs.{Waits.longest_intergreen, Waits.longest_red};
 
 /// Each unmarked phase of a lawful timeline, whose intergreens are within given bounds, is green within a turn of the ring in
 /// which every other phase has its greatest green.

@@ -1,8 +1,7 @@
 //! The header and the fields of records.
 ghost use Rattle.std.specs.Prelude.{◌≡◌, ◌≢◌, ◌↔◌, [], ◌∷◌, IsTrue, MatchOption, OnOk, length};
 ghost use Rattle.csv.specs.Records.{fields_of};
-ghost use Rattle.world_records.specs.Records.{header};
-ghost use Rattle.world_records.specs.Written.{Adds};
+ghost use Rattle.world_records.specs.{Records.header, Written.Adds};
 
 use crate::records::write_record;
 use csv::{ByteRecord, Writer};

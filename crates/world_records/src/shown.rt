@@ -6,10 +6,8 @@ ghost use Rattle.net_simulator.specs.Counts.{counts_at};
 ghost use Rattle.net_simulator.specs.Sums as sums;
 ghost use Rattle.road_net.specs.Through.{is_through};
 ghost use Rattle.world_records.specs.Records as records;
-ghost use Rattle.world_records.specs.Records.{counted_records, green_record, green_records, link_record, link_record_of};
-ghost use Rattle.world_records.specs.Records.{shown_records, total_record};
-ghost use Rattle.world_records.specs.Told.{AreToldCounts, IsToldGreen, told_by, told_line, told_rows};
-ghost use Rattle.world_records.specs.Written.{Adds};
+ghost use Rattle.world_records.specs.{Records.counted_records, Records.green_record, Records.green_records, Records.link_record, Records.link_record_of, Records.shown_records, Records.total_record, Told.AreToldCounts, Told.IsToldGreen};
+ghost use Rattle.world_records.specs.{Told.told_by, Told.told_line, Told.told_rows, Written.Adds};
 
 use crate::digits::digits_of;
 use crate::entries::write_header;

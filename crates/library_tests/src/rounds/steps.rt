@@ -1,8 +1,7 @@
 //! What a core answers to steps, and what it wants.
 ghost use Rattle.std.specs.Prelude.{IfOk};
 ghost use Rattle.arrivals.specs.Amounts.{AreArrivals};
-ghost use Rattle.schedule_meaning.specs.Best.{IsBest, IsLeast};
-ghost use Rattle.schedule_meaning.specs.declared.planners.Answer.{Answer};
+ghost use Rattle.schedule_meaning.specs.{Best.IsBest, Best.IsLeast, declared.planners.Answer.Answer};
 
 use arrivals::{Arrivals, read_arrivals};
 use forward_dp::LayerPlanner;
