@@ -1,5 +1,5 @@
 //! A sheet that is being read.
-ghost use Rattle.std.specs.Prelude.{◌≡◌, ◌≢◌, ◌<◌, ◌++◌, ◌∷◌, [], ℕ, List, IfErr, IfNone, IfOk, IfSome, OnOk, length, slice_index_or};
+ghost use Rattle.std.specs.Prelude.{◌≡◌, ◌<◌, [], List, IfErr, IfNone, IfOk, IfSome, OnOk, length};
 ghost use Rattle.net_parts.specs.Numbers.{Net};
 ghost use Rattle.road_net.specs.Network.{IsNetwork};
 ghost use Rattle.audit.specs.{SheetEntries.HasCome, SheetEntries.IsMore, SheetEntries.IsRecordFault, SheetEntries.in_words, SheetFaults.IsEarly, SheetRecords.Counts, SheetRecords.Shows, SheetRecords.Sums, SheetRecords.SheetRecord};
@@ -9,12 +9,11 @@ use crate::sheet::Sheet;
 use crate::sheet_entries::Entry;
 use crate::sheet_faults::SheetFault;
 use control_flow::greens::Green;
-use foundation::items::Items;
+use foundation::items::{Items, push_item};
 use net_simulator::{LinkTotals, Totals};
 use record_text::node_named;
 use road_net::Network;
 use std::alloc::{AllocError, Global};
-use std::mem;
 
 /// What the records so far tell.
 #[derive(Drop)]
@@ -108,28 +107,7 @@ fn take_green(
     let Some(node) = node_named(net, name) else {
         return Err(SheetFault::Name(number));
     };
-    add_green(alloc, &mut reader.lines, node as usize, green)?;
-    Ok(())
-}
-
-/// Appends a green to one of the lines.
-fn add_green(
-    alloc: Global,
-    lines: &mut Vec<Items<Green>>,
-    node: usize,
-    green: Green,
-) -> Result<(), AllocError>
-    requires { node < length lines.old.items }
-    ensures count { OnOk result (length lines.new.items ≡ length lines.old.items) }
-    ensures here { OnOk result
-        (slice_index_or lines.new.items node [] ≡ slice_index_or lines.old.items node [] ++ green ∷ []) }
-    ensures others { OnOk result ((k : ℕ) → k ≢ node
-        → slice_index_or lines.new.items k [] ≡ slice_index_or lines.old.items k []) }
-{
-    let line = mem::replace(&mut lines[node], Items::from_vec(Vec::new(alloc)));
-    let mut greens = line.into_vec();
-    greens.push(green)?;
-    lines[node] = Items::from_vec(greens);
+    push_item(alloc, &mut reader.lines, node as usize, green)?;
     Ok(())
 }
 

@@ -1,8 +1,10 @@
 //! A list inside public types.
 
-ghost use Rattle.std.specs.Prelude.{◌≡◌, length};
+ghost use Rattle.std.specs.Prelude.{◌≡◌, ◌≢◌, ◌<◌, ◌++◌, ◌∷◌, [], ℕ, OnOk, length, slice_index_or};
 
+use std::alloc::{AllocError, Global};
 use std::marker::Model;
+use std::mem;
 
 /// A list inside a public struct, enum or answer. Contracts see it as the list of its elements.
 ///
@@ -49,4 +51,25 @@ impl<T> Items<T> {
     {
         self.items.len()
     }
+}
+
+/// Appends an element to the list in this place. `Err`: out of memory; the list in this place is then lost.
+pub fn push_item<T: Drop>(
+    alloc: Global,
+    lists: &mut Vec<Items<T>>,
+    place: usize,
+    element: T,
+) -> Result<(), AllocError>
+    requires { place < length lists.old.items }
+    ensures count { OnOk result (length lists.new.items ≡ length lists.old.items) }
+    ensures here { OnOk result
+        (slice_index_or lists.new.items place [] ≡ slice_index_or lists.old.items place [] ++ element ∷ []) }
+    ensures others { OnOk result ((k : ℕ) → k ≢ place
+        → slice_index_or lists.new.items k [] ≡ slice_index_or lists.old.items k []) }
+{
+    let list = mem::replace(&mut lists[place], Items::from_vec(Vec::new(alloc)));
+    let mut elements = list.into_vec();
+    elements.push(element)?;
+    lists[place] = Items::from_vec(elements);
+    Ok(())
 }

@@ -1,15 +1,14 @@
 //! How the parts of a network are joined.
-ghost use Rattle.std.specs.Prelude.{◌≡◌, ◌≢◌, ◌≤◌, ◌<◌, ◌^◌, ◌↔◌, ℕ, IsTrue, IfOk, OnOk, IfSome, ◌++◌, ◌∷◌, Some, [], All, AllPairs, length, replicate, slice_index_or, sum_by};
+ghost use Rattle.std.specs.Prelude.{◌≡◌, ◌≢◌, ◌≤◌, ◌<◌, ◌^◌, ◌↔◌, IsTrue, IfOk, OnOk, IfSome, Some, [], All, AllPairs, length, replicate, sum_by};
 ghost use Rattle.net_parts.specs.{Limits.most_links, Limits.most_nodes, Outline.IsOutline, Parts.net_of};
 ghost use Rattle.road_net.specs.Stored.{TestsEach, clash_at, HasFewAt, IsPushedAt};
 ghost use Rattle.road_net.specs.Joins.{HasEndsAt, link_at, node_at, AreByNode, HasShares, HasSharesAt, share_of, times_named, IsPhased, IsPhasedAt, IsConflict, IsConflictAt};
 
 use crate::greens::are_never_both;
 use crate::times::times_named;
-use foundation::items::Items;
+use foundation::items::{Items, push_item};
 use net_parts::{Link, NetFault, Parts, Turn, phase_with};
 use std::alloc::{AllocError, Global};
-use std::mem;
 
 /// A side of a link.
 #[derive(Clone, Copy)]
@@ -85,28 +84,7 @@ fn push_at(
     if place >= lists.len() {
         return Ok(());
     }
-    push_number(alloc, lists, place, number)
-}
-
-/// Appends a number to the list in this place.
-fn push_number(
-    alloc: Global,
-    lists: &mut Vec<Items<u32>>,
-    place: usize,
-    number: u32,
-) -> Result<(), AllocError>
-    requires { place < length lists.old.items }
-    ensures count { OnOk result (length lists.new.items ≡ length lists.old.items) }
-    ensures here { OnOk result
-        (slice_index_or lists.new.items place [] ≡ slice_index_or lists.old.items place [] ++ number ∷ []) }
-    ensures others { OnOk result ((k : ℕ) → k ≢ place
-        → slice_index_or lists.new.items k [] ≡ slice_index_or lists.old.items k []) }
-{
-    let list = mem::replace(&mut lists[place], Items::from_vec(Vec::new(alloc)));
-    let mut numbers = list.into_vec();
-    numbers.push(number)?;
-    lists[place] = Items::from_vec(numbers);
-    Ok(())
+    push_item(alloc, lists, place, number)
 }
 
 /// Tests that no list has more than 16 links. The node of the first that has is named.
