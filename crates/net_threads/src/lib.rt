@@ -10,5 +10,5 @@ mod node_tasks;
 mod rounds;
 mod set_up;
 
-pub use network_ends::link_ends;
+pub use network_ends::{link_ends, open_boards};
 pub use network_runs::{run_rounds, run_rounds_snap};

@@ -15,8 +15,7 @@ use arrivals::Arrivals;
 use board_model::{BoardLog, Gate};
 use delay_report::{join_report, law_of_reports, render_outcome, render_steps};
 use histories::merge;
-use net_threads::{link_ends, run_rounds_snap};
-use node_rounds::node_calls;
+use net_threads::{open_boards, run_rounds_snap};
 use pruned_dp::BoundPlanner;
 use road_net::{Network, law_of_network};
 use runs::{RunRecord, law_of_runs};
@@ -30,27 +29,6 @@ use std::thread::{Threads, join};
 struct LoggedRun {
     run: RunRecord,
     logs: Vec<BoardLog>,
-}
-
-/// New boards for the links of a network, whose ends are its nodes, and new passes at them, one for each node, with the calls of all
-/// its rounds.
-fn open_boards<R: Wait>(
-    rt: &R,
-    alloc: Global,
-    net: &Network,
-) -> Result<(SnapBoards, Vec<SnapPass>), AllocError>
-    ensures links { IfOk result (λ r. r.0.links ≡ length net.now.link_names) }
-    ensures ends { IfOk result (λ r. AreEndsOf net.now r.0.ends) }
-    ensures all { IfOk result (λ r. AreAllPasses (shared_of r.0) r.1.items) }
-    ensures nodes { IfOk result (λ r. length r.1.items ≡ length net.now.node_names) }
-    ensures fresh { IfOk result (λ r. All (λ p. p.calls ≡ []) r.1.items) }
-    ensures left { IfOk result (λ r. HaveCallsLeft net.now r.1.items) }
-{
-    law_of_network(net);
-    let ends = link_ends(alloc, net)?;
-    let calls = node_calls(alloc, net)?;
-    let (boards, passes) = SnapBoards::new(rt, alloc, ends.as_slice(), calls.as_slice())?;
-    Ok((boards, passes))
 }
 
 /// The run of a network in threads, by new passes, one for each node, and the passes after it.

@@ -1,9 +1,9 @@
 //! The rounds of a network at boards whose forecasts are read beside the writer, with boards and passes of the test.
-ghost use Rattle.std.specs.Prelude.{◌≡◌, length};
+ghost use Rattle.std.specs.Prelude.{◌≡◌, [], All, length};
 ghost use Rattle.arrivals.specs.Amounts.{AreArrivals};
-ghost use Rattle.link_boards.specs.Passes.{AreAllPasses, fresh_passes};
+ghost use Rattle.link_boards.specs.Passes.{AreAllPasses};
 ghost use Rattle.net_threads.specs.Ends.{AreEndsOf};
-ghost use Rattle.node_rounds.specs.Calls.{node_calls};
+ghost use Rattle.node_rounds.specs.Calls.{HaveCallsLeft};
 ghost use Rattle.snap_boards.specs.Boards.{shared_of};
 
 use super::copies::{network_of_copies, vehicles_of_copies};
@@ -11,9 +11,8 @@ use super::pairs::{COPIES, MET, PAIRS, can_meet, gate_of};
 use crate::gates::meeting::MeetingGate;
 use arrivals::{Arrivals, read_arrivals};
 use forward_dp::LayerPlanner;
-use net_threads::{link_ends, run_rounds_snap};
-use node_rounds::node_calls;
-use road_net::{Network, law_of_network};
+use net_threads::{open_boards, run_rounds_snap};
+use road_net::Network;
 use snap_boards::{SnapBoards, SnapPass};
 use std::alloc::{AllocError, Global};
 use std::sync::Wait;
@@ -35,7 +34,9 @@ fn play<R: Threads + Wait + Sync>(
     requires links { boards.now.links ≡ length net.now.link_names }
     requires ends { AreEndsOf net.now boards.now.ends }
     requires all { AreAllPasses (shared_of boards.now) passes.old }
-    requires passes { passes.old ≡ fresh_passes boards.now.id (node_calls net.now) }
+    requires nodes { length passes.old ≡ length net.now.node_names }
+    requires fresh { All (λ p. p.calls ≡ []) passes.old }
+    requires left { HaveCallsLeft net.now passes.old }
     ensures { AreAllPasses (shared_of boards.now) passes.new }
 {
     let planners = vec![in alloc; LayerPlanner; net.nodes() as usize]?;
@@ -53,10 +54,7 @@ fn play_anew<R: Threads + Wait + Sync>(
 ) -> Result<u64, AllocError>
     requires { AreArrivals net.now arrivals.now }
 {
-    law_of_network(net);
-    let ends = link_ends(alloc, net)?;
-    let calls = node_calls(alloc, net)?;
-    let (boards, mut passes) = SnapBoards::new(rt, alloc, ends.as_slice(), calls.as_slice())?;
+    let (boards, mut passes) = open_boards(rt, alloc, net)?;
     let entered = play(
         rt,
         alloc,

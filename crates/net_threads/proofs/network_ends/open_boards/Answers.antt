@@ -6,7 +6,7 @@ use Rattle.node_rounds.specs.Calls.{HaveCallsLeft}
 use Rattle.node_rounds.proofs.FreshPasses.{calls-count, fresh-count, fresh-left, fresh-none}
 use Rattle.snap_boards.specs.declared.ends.Ends.{Ends}
 use Rattle.snap_boards.specs.Boards.{AreAllEnds}
-use Rattle.network_jobs.proofs.rounds.open_boards.Goals as goal
+use Rattle.net_threads.proofs.network_ends.open_boards.Goals as goal
 
 pub new-requires-clause-links : goal.new-requires-clause-links
 new-requires-clause-links g c =
