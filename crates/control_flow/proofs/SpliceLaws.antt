@@ -55,7 +55,7 @@ row-of-head plan rows now head e = row-of-some plan rows now head (row_after row
 
 -- in a lawful timeline, rows begin after those before them
 
-begins-later : (plan : List Phase) (first : Green) (rows : List Green) (now : ℕ) (row : Green) → IsLawful plan (first ∷ rows) → row_after rows now ≡ Some row → first.to ≤ row.from
+pub begins-later : (plan : List Phase) (first : Green) (rows : List Green) (now : ℕ) (row : Green) → IsLawful plan (first ∷ rows) → row_after rows now ≡ Some row → first.to ≤ row.from
 begins-later plan first [] now row lawful e = let impossible : first.to ≤ row.from = cc in impossible
 begins-later plan first (next ∷ rows) now row lawful e =
     let follows = lawful-next plan first next rows lawful in

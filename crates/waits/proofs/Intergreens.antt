@@ -11,10 +11,10 @@ use Rattle.control_flow.specs.Timelines.{AreServings, begin_after, green_after, 
 use Rattle.control_flow.specs.declared.greens.Green.{Green}
 use Rattle.control_flow.proofs.OrderLaws.{green-lasts}
 use Rattle.control_flow.proofs.RingLaws.{begin_after-passed}
-use Rattle.control_flow.proofs.RowLaws.{lawful-first, lawful-next, lawful-tail}
+use Rattle.control_flow.proofs.RowLaws.{lawful-first, lawful-tail}
 use Rattle.control_flow.proofs.ServingLaws.{IsServingOf-head, IsServingOf-keeps}
 use Rattle.control_flow.proofs.MakingLaws.{line_of-line}
-use Rattle.control_flow.proofs.SpliceLaws.{IsRowOf, row-of-head}
+use Rattle.control_flow.proofs.SpliceLaws.{IsRowOf, begins-later, row-of-head}
 use Rattle.waits.specs.Waits.{BeginSoon, AreIntergreensWithin, longest_intergreen}
 
 module _ (intergreen : ℕ → ℕ) where
@@ -109,22 +109,6 @@ module _ (plan : List Phase) (look : ℕ) where
 -- a splice keeps the intergreens
 
 module _ (plan : List Phase) (p : All IsPhase plan) (intergreen : ℕ → ℕ) where
-  begins-later : (first : Green) (rows : List Green) (now : ℕ) (row : Green) → IsLawful plan (first ∷ rows) → row_after rows now ≡ Some row → first.to ≤ row.from
-  begins-later first [] now row lawful e = let impossible : first.to ≤ row.from = cc in impossible
-  begins-later first (next ∷ rows) now row lawful e =
-      let follows = lawful-next plan first next rows lawful in
-      let others = lawful-tail plan first (next ∷ rows) lawful in
-      let green = lawful-first plan next rows others in
-      elim (cases_lt now next.to) [
-        | inl h ↦
-            let f = cond_below now next.to (Some next) (row_after rows now) h in
-            let same : next ≡ row = cc in
-            omega (arith, follows.begins, ap (λ (r : Green). r.from) same)
-        | inr h ↦
-            let later = begins-later next rows now row others (cond_above now next.to (Some next) (row_after rows now) (row_after rows now) h refl ∙ e) in
-            omega (arith, follows.begins, green.least, later)
-      ]
-
   pub kept-none : (r first : Green) (rs : List Green) → first.from ≡ r.from → rows_before (r ∷ rs) first.from ≡ []
   kept-none r first rs e = sym (cond_above r.from first.from (r ∷ rows_before rs first.from) [] [] (omega (arith, e)) refl)
 
@@ -135,7 +119,7 @@ module _ (plan : List Phase) (p : All IsPhase plan) (intergreen : ℕ → ℕ) w
       → (row_after rs now ≡ Some row) × (r.from < first.from)
   past-row r rs now row first lawful e same h =
       let found = cond_above now r.to (Some r) (row_after rs now) (row_after rs now) h refl ∙ e in
-      let later = begins-later r rs now row lawful found in
+      let later = begins-later plan r rs now row lawful found in
       let long = green-lasts plan r p (lawful-first plan r rs lawful) in
       (found, omega (arith, same, later, long))
 
