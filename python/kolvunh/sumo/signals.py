@@ -28,6 +28,14 @@ class Signals:
         """The links of a movement's lane, or of a crossing; their greens are the same."""
         return self.links_of.get(move.lane, [])
 
+    def moves_by_link(self, node):
+        """The movements of a node by their links, in the order of the first of each."""
+        moves = defaultdict(list)
+        for move in self.junctions.movements[node]:
+            for link in self.links_by(move):
+                moves[link].append(move)
+        return moves
+
     def _state(self, node, phase):
         state = list(self.red[node])
         on = [move for move in self.moves[node] for link in self.links_by(move)[:1] if (node, phase) in self.layout.greens_of[link]]
@@ -62,10 +70,7 @@ class Signals:
     def apart_by_sumo(self):
         """Pairs of links that meet by the file, and whose lanes do not."""
         for node in self.layout.nodes:
-            moves = defaultdict(list)
-            for move in self.junctions.movements[node]:
-                for link in self.links_by(move):
-                    moves[link].append(move)
+            moves = self.moves_by_link(node)
             for one, other in itertools.combinations(moves, 2):
                 if frozenset((one, other)) in self.layout.declared:
                     if not any(self.junctions.cross(*pair) for pair in itertools.product(moves[one], moves[other])):

@@ -19,7 +19,6 @@ import itertools
 import math
 import subprocess
 import sys
-from collections import defaultdict
 from pathlib import Path
 from types import MappingProxyType
 from xml.sax.saxutils import quoteattr
@@ -238,10 +237,7 @@ def who_gives_way(signals):
     """
     found, links = {}, signals.layout.links
     for node in signals.layout.nodes:
-        moves = defaultdict(list)
-        for move in signals.junctions.movements[node]:
-            for link in signals.links_by(move):
-                moves[link].append(move)
+        moves = signals.moves_by_link(node)
         for one, other in itertools.permutations(moves, 2):
             yields, back = other in links[one].get("yields", []), one in links[other].get("yields", [])
             if yields or (not back and one < other and frozenset((one, other)) in signals.layout.declared):
