@@ -6,13 +6,14 @@ use Rattle.std.proofs.lemmas.List.{append-nil, append_cancel_left}
 use Rattle.std.proofs.lemmas.List.Elements.{All-from_recursion, recursion_from_All, All-nil}
 use Rattle.text_lines.specs.Fields.{literal_at}
 use Rattle.text_lines.proofs.Units.{literal_again}
+use Rattle.phase_plan.specs.Phases.{HasU32Times}
 use Rattle.phase_plan.specs.declared.Phase.{Phase}
 use Rattle.switch_rules.specs.declared.Head.{Head}
 use Rattle.switch_rules.specs.declared.Cluster.{Cluster}
 use Rattle.text_lines.specs.Lines.{line_feeds}
 use Rattle.instance_form.specs.Faults.{BeginsText, BeginsFront}
 use Rattle.instance_form.specs.Faults as form_fault
-use Rattle.instance_form.specs.InstanceText.{whole_text, line_count, IsFreeWhere, IsWritable, IsWritableCluster}
+use Rattle.instance_form.specs.InstanceText.{whole_text, line_count, IsFreeWhere, IsWritableCluster}
 use Rattle.instance_form.specs.InstanceText as form
 use Rattle.text_lines.proofs.Feeds.{line_feeds-nil, line_feeds-append, line_feeds_once, fronts, next_line}
 use Rattle.text_lines.proofs.FirstLine.{NextLine, faulty-here}
@@ -96,7 +97,7 @@ no_phase = record { least = 0; greatest = 0; yellow = 0; clear = 0; loss = 0; wa
 no_problem : Problem
 no_problem = record { plan = no_phase ∷ no_phase ∷ []; head = record { phase = 0; since = 0; at = 0; fresh = false }; lists = [] ∷ [] ∷ [] }
 
-no_phase_fits : IsWritable no_phase
+no_phase_fits : HasU32Times no_phase
 unfolding no_phase
 no_phase_fits = record { least = omega arith; greatest = omega arith; yellow = omega arith; clear = omega arith; loss = omega arith; wait = omega arith }
 
@@ -105,7 +106,7 @@ unfolding no_problem
 no_problem_fits = record {
   count = (omega arith, omega arith);
   each = refl;
-  phases = All-from_recursion IsWritable (no_phase ∷ no_phase ∷ []) (no_phase_fits, (no_phase_fits, tt));
+  phases = All-from_recursion HasU32Times (no_phase ∷ no_phase ∷ []) (no_phase_fits, (no_phase_fits, tt));
   head = record { phase = omega arith; since = omega arith; at = omega arith };
   clusters = All-from_recursion (All IsWritableCluster) ([] ∷ [] ∷ []) (All-nil IsWritableCluster, (All-nil IsWritableCluster, tt));
 }

@@ -7,13 +7,14 @@ use Rattle.std.proofs.lemmas.List.Sums.{sum_by-cons}
 use Rattle.text_lines.specs.Lines.{line_feeds}
 use Rattle.text_lines.proofs.Feeds.{IsTextLine, line_is, line_feeds-nil, line_feeds-append, feeds_in_number, feeds_in_lines}
 use Rattle.text_lines.proofs.FirstLine.{NextLine, faulty-here}
+use Rattle.phase_plan.specs.Phases.{HasU32Times}
 use Rattle.phase_plan.specs.declared.Phase.{Phase}
 use Rattle.switch_rules.specs.declared.Head.{Head}
 use Rattle.switch_rules.specs.declared.Cluster.{Cluster}
 use Rattle.instance_form.specs.Faults.{BeginsText, BeginsFront, IsFirstFault}
 use Rattle.instance_form.specs.declared.form.Version.{Version}
 use Rattle.instance_form.specs.declared.form.Version.TheVariants.{One, Two, Three, Four}
-use Rattle.instance_form.specs.InstanceText.{first_line, count_line, mark, phase_numbers, phase_line, freshness, head_line, cluster_numbers, cluster_line, cluster_lines, IsWritable, IsWritableHead, IsWritableCluster}
+use Rattle.instance_form.specs.InstanceText.{first_line, count_line, mark, phase_numbers, phase_line, freshness, head_line, cluster_numbers, cluster_line, cluster_lines, IsWritableHead, IsWritableCluster}
 use Rattle.instance_form.proofs.LineLaws.{IsSaidPhase, IsSaidCluster}
 
 -- ---- each line is ended by one line feed
@@ -38,7 +39,7 @@ unfolding line_feeds
 feeds_in_mark true = refl
 feeds_in_mark false = refl
 
-feeds_in_times : (p : Phase) (ends : List (List ℕ)) → IsWritable p → AllByRecursion (λ w. line_feeds w ≡ 0) ends → AllByRecursion (λ w. line_feeds w ≡ 0) (codes "phase" ∷ (map decimal (phase_numbers p) ++ ends))
+feeds_in_times : (p : Phase) (ends : List (List ℕ)) → HasU32Times p → AllByRecursion (λ w. line_feeds w ≡ 0) ends → AllByRecursion (λ w. line_feeds w ≡ 0) (codes "phase" ∷ (map decimal (phase_numbers p) ++ ends))
 unfolding line_feeds
 feeds_in_times p ends fits none =
     let a = fits.least in let b = fits.greatest in let c = fits.yellow in let d = fits.clear in let e = fits.loss in let f = fits.wait in

@@ -6,12 +6,13 @@ use Rattle.std.specs.Fmt.{decimal}
 use Rattle.std.proofs.lemmas.Fmt.{length-decimal-le}
 use Rattle.std.proofs.lemmas.List.Concat.{length-flat_map}
 use Rattle.std.proofs.lemmas.List.Sums.{sum_by-le, sum_by-cons}
+use Rattle.phase_plan.specs.Phases.{HasU32Times}
 use Rattle.phase_plan.specs.declared.Phase.{Phase}
 use Rattle.switch_rules.specs.declared.Head.{Head}
 use Rattle.switch_rules.specs.declared.Cluster.{Cluster}
 use Rattle.instance_form.specs.declared.form.Version.{Version}
 use Rattle.instance_form.specs.declared.form.Version.TheVariants.{One, Two, Three, Four}
-use Rattle.instance_form.specs.InstanceText.{line, version_of, first_line, count_line, mark, phase_numbers, phase_line, freshness, head_line, cluster_numbers, cluster_line, cluster_lines, form_text, whole_text, IsWritable, IsWritableHead, IsWritableCluster, HasText}
+use Rattle.instance_form.specs.InstanceText.{line, version_of, first_line, count_line, mark, phase_numbers, phase_line, freshness, head_line, cluster_numbers, cluster_line, cluster_lines, form_text, whole_text, IsWritableHead, IsWritableCluster, HasText}
 use Rattle.instance_form.specs.Lengths.{most_cluster_bytes, most_other_bytes}
 
 -- no word has more than ten bytes
@@ -36,10 +37,10 @@ mark-le : (skip : Bool) → length (mark skip) ≤ 10
 mark-le true = lit≤ tt
 mark-le false = lit≤ tt
 
-times-short : (p : Phase) (ends : List (List ℕ)) → IsWritable p → AreShort ends → AreShort (codes "phase" ∷ (map decimal (phase_numbers p) ++ ends))
+times-short : (p : Phase) (ends : List (List ℕ)) → HasU32Times p → AreShort ends → AreShort (codes "phase" ∷ (map decimal (phase_numbers p) ++ ends))
 times-short p ends h short = (lit≤ tt, (digits-le p.least h.least, (digits-le p.greatest h.greatest, (digits-le p.yellow h.yellow, (digits-le p.clear h.clear, (digits-le p.loss h.loss, (digits-le p.wait h.wait, short)))))))
 
-phase_line-le : (v : Version) (p : Phase) → IsWritable p → length (phase_line v p) ≤ 89
+phase_line-le : (v : Version) (p : Phase) → HasU32Times p → length (phase_line v p) ≤ 89
 phase_line-le One p h = omega (arith, line-le (codes "phase" ∷ map decimal (phase_numbers p)) (times-short p [] h tt))
 phase_line-le Two p h = line-le (codes "phase" ∷ (map decimal (phase_numbers p) ++ mark p.skip ∷ [])) (times-short p (mark p.skip ∷ []) h (mark-le p.skip, tt))
 phase_line-le Three p h = line-le (codes "phase" ∷ (map decimal (phase_numbers p) ++ mark p.skip ∷ [])) (times-short p (mark p.skip ∷ []) h (mark-le p.skip, tt))
@@ -65,7 +66,7 @@ cluster_line-le Two k c small h = omega (arith, line-le (codes "cluster" ∷ map
 cluster_line-le Three k c small h = line-le (codes "cluster" ∷ map decimal (k ∷ cluster_numbers Three c)) (lit≤ tt, (digits-le k small, (digits-le c.size h.size, (digits-le c.load h.load, span-short c h))))
 cluster_line-le Four k c small h = line-le (codes "cluster" ∷ map decimal (k ∷ cluster_numbers Four c)) (lit≤ tt, (digits-le k small, (digits-le c.size h.size, (digits-le c.load h.load, span-short c h))))
 
-phase_lines-le : (v : Version) (plan : List Phase) → All IsWritable plan → length (flat_map (phase_line v) plan) ≤ length plan * 89
+phase_lines-le : (v : Version) (plan : List Phase) → All HasU32Times plan → length (flat_map (phase_line v) plan) ≤ length plan * 89
 phase_lines-le v plan fits =
     omega (arith, length-flat_map (phase_line v) plan, sum_by-le (λ p. length (phase_line v p)) 89 plan (λ i d inside. phase_line-le v _ (fits i d inside)))
 

@@ -8,12 +8,13 @@ use Rattle.std.proofs.lemmas.Bool.{and_parts, leb-true, le-leb, eqb-true, eq-eqb
 use Rattle.std.proofs.lemmas.Option.{cond_some, same_Some}
 use Rattle.text_lines.specs.Fields.{literal_at, field_at}
 use Rattle.text_lines.proofs.Units.{literal_takes, literal_again, field_takes, field_again}
+use Rattle.phase_plan.specs.Phases.{HasU32Times}
 use Rattle.phase_plan.specs.declared.Phase.{Phase}
 use Rattle.switch_rules.specs.declared.Head.{Head}
 use Rattle.switch_rules.specs.declared.Cluster.{Cluster}
 use Rattle.instance_form.specs.declared.form.Version.{Version}
 use Rattle.instance_form.specs.declared.form.Version.TheVariants.{One, Two, Three, Four}
-use Rattle.instance_form.specs.InstanceText.{first_line, count_line, phase_numbers, phase_line, head_line, cluster_line, IsWritable, IsWritableHead, IsWritableCluster}
+use Rattle.instance_form.specs.InstanceText.{first_line, count_line, phase_numbers, phase_line, head_line, cluster_line, IsWritableHead, IsWritableCluster}
 use Rattle.instance_form.specs.Lines.{numbers_at, value_at, version_line_at, count_line_at, phase_limits, times_end, mark_end, mark_at, phase_of, phase_line_at, head_limits, head_end, freshness_at, head_of, head_line_at, load_at, span_limits, cluster_line_at}
 use Rattle.instance_form.proofs.NumberLaws.{then_some, space, line_feed, numbers_text, AreBelow, below-length, numbers_take, numbers_again, value_takes, value_first, value_later}
 
@@ -73,7 +74,7 @@ IsSaidMark Four skip = skip ≡ true
 
 -- the line of a phase in this version says all of it
 pub record IsSaidPhase (v : Version) (p : Phase) : Type 0 where
-  pub fits : IsWritable p
+  pub fits : HasU32Times p
   pub mark : IsSaidMark v p.skip
 
 -- the mark as it stands in a line
@@ -115,7 +116,7 @@ times_apart Two = space
 times_apart Three = space
 times_apart Four = space
 
-below_phase : (p : Phase) → IsWritable p → AreBelow (phase_numbers p) phase_limits
+below_phase : (p : Phase) → HasU32Times p → AreBelow (phase_numbers p) phase_limits
 below_phase p fits = (fits.least, (fits.greatest, (fits.yellow, (fits.clear, (fits.loss, (fits.wait, tt))))))
 
 -- a phase's line, as its units are read
@@ -139,7 +140,7 @@ phase_whole : (ns : List ℕ) (skip : Bool) → AreBelow ns phase_limits → pha
 phase_whole (a ∷ b ∷ c ∷ d ∷ e ∷ f ∷ []) skip below = refl
 phase_whole ns skip below = absurd (omega (arith, below-length ns phase_limits below))
 
-phase_small : (p : Phase) → AreBelow (phase_numbers p) phase_limits → IsWritable p
+phase_small : (p : Phase) → AreBelow (phase_numbers p) phase_limits → HasU32Times p
 phase_small p (a, (b, (c, (d, (e, (f, end)))))) = record { least = a; greatest = b; yellow = c; clear = d; loss = e; wait = f }
 
 pub phase_takes : (v : Version) (bytes : List ℕ) (x : Phase × List ℕ) → phase_line_at v bytes ≡ Some x → Takes (phase_line v) (IsSaidPhase v) bytes x

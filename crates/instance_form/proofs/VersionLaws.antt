@@ -4,7 +4,7 @@ use Rattle.std.specs.List.{All, AllByRecursion}
 use Rattle.std.proofs.lemmas.Bool.{or_parts, not-false, eqb-true, eq-eqb}
 use Rattle.std.proofs.lemmas.List.Elements.{All-from_recursion, recursion_from_All, All-weaker}
 use Rattle.std.proofs.lemmas.List.Sums.{sum_by-cons}
-use Rattle.phase_plan.specs.Phases.{is_unmarked}
+use Rattle.phase_plan.specs.Phases.{HasU32Times, is_unmarked}
 use Rattle.phase_plan.specs.declared.Phase.{Phase}
 use Rattle.switch_rules.specs.declared.Head.{Head}
 use Rattle.switch_rules.specs.declared.Cluster.{Cluster}
@@ -12,7 +12,7 @@ use Rattle.instance_form.specs.declared.form.Version.{Version}
 use Rattle.instance_form.specs.declared.form.Version.TheVariants.{One, Two, Three, Four}
 use Rattle.instance_form.specs.Versions.{has_marks, has_load, has_loads, says_free, version_of}
 use Rattle.instance_form.specs.Reading.{can_be_all, may_end}
-use Rattle.instance_form.specs.InstanceText.{form_text, whole_text, IsFreeWhere, IsWritable, IsWritableHead, IsWritableCluster, HasText}
+use Rattle.instance_form.specs.InstanceText.{form_text, whole_text, IsFreeWhere, IsWritableHead, IsWritableCluster, HasText}
 use Rattle.instance_form.proofs.LineLaws.{IsSaidMark, IsSaidPhase, IsSaidLoad, IsSaidCluster}
 
 -- the text of this version says all of these phases and clusters, and is no text without one of them
@@ -24,13 +24,13 @@ pub record Says (v : Version) (plan : List Phase) (lists : List (List Cluster)) 
 
 -- ---- the version of phases and clusters says them
 
-unmarked : (plan : List Phase) → has_marks plan ≡ false → AllByRecursion IsWritable plan → AllByRecursion (IsSaidPhase One) plan
+unmarked : (plan : List Phase) → has_marks plan ≡ false → AllByRecursion HasU32Times plan → AllByRecursion (IsSaidPhase One) plan
 unmarked [] none fits = tt
 unmarked (p ∷ ps) none fits =
     let t = or_parts p.skip (has_marks ps) none in
     (record { fits = fits.0; mark = t.0 }, unmarked ps t.1 fits.1)
 
-marked : (v : Version) → ((skip : Bool) → IsSaidMark v skip) → (plan : List Phase) → AllByRecursion IsWritable plan → AllByRecursion (IsSaidPhase v) plan
+marked : (v : Version) → ((skip : Bool) → IsSaidMark v skip) → (plan : List Phase) → AllByRecursion HasU32Times plan → AllByRecursion (IsSaidPhase v) plan
 marked v says [] fits = tt
 marked v says (p ∷ ps) fits = (record { fits = fits.0; mark = says p.skip }, marked v says ps fits.1)
 
@@ -56,7 +56,7 @@ loaded v says [] fits = tt
 loaded v says (cs ∷ ls) fits = (loaded_list v says cs fits.0, loaded v says ls fits.1)
 
 -- where none is unmarked, all are marked
-all_marked : (plan : List Phase) → count_by is_unmarked plan ≡ 0 → AllByRecursion IsWritable plan → AllByRecursion (IsSaidPhase Four) plan
+all_marked : (plan : List Phase) → count_by is_unmarked plan ≡ 0 → AllByRecursion HasU32Times plan → AllByRecursion (IsSaidPhase Four) plan
 all_marked [] none fits = tt
 all_marked (p ∷ ps) none fits =
     let parts = sum_by-cons (λ (q : Phase). cond (is_unmarked q) 1 0) p ps in
@@ -66,7 +66,7 @@ all_marked (p ∷ ps) none fits =
     by true e = refl
     by false e = absurd (omega (arith, e))
 
-pub own_version : (free : Bool) (plan : List Phase) (lists : List (List Cluster)) → AllByRecursion IsWritable plan → IsFreeWhere free plan → AllByRecursion (AllByRecursion IsWritableCluster) lists → Says (version_of free plan lists) plan lists
+pub own_version : (free : Bool) (plan : List Phase) (lists : List (List Cluster)) → AllByRecursion HasU32Times plan → IsFreeWhere free plan → AllByRecursion (AllByRecursion IsWritableCluster) lists → Says (version_of free plan lists) plan lists
 own_version true plan lists fits ring small =
     record { phases = all_marked plan (eqb-true (count_by is_unmarked plan) 0 (ring refl)) fits; clusters = loaded Four (λ size load. tt) lists small; whole = refl; ends = refl }
 own_version false plan lists fits ring small = by_tests (has_loads lists) (has_marks plan) refl refl
@@ -136,14 +136,14 @@ recursion_within P (xs ∷ xss) h = (recursion_from_All P xs h.0, recursion_with
 
 -- a form that has a text is said by its version
 pub says_own : (free : Bool) (plan : List Phase) (h : Head) (lists : List (List Cluster)) → HasText plan h lists → IsFreeWhere free plan → Says (version_of free plan lists) plan lists
-says_own free plan h lists fits ring = own_version free plan lists (recursion_from_All IsWritable plan fits.phases) ring (recursion_within IsWritableCluster lists (recursion_from_All (All IsWritableCluster) lists fits.clusters))
+says_own free plan h lists fits ring = own_version free plan lists (recursion_from_All HasU32Times plan fits.phases) ring (recursion_within IsWritableCluster lists (recursion_from_All (All IsWritableCluster) lists fits.clusters))
 
 -- and what a version says has a text
 pub said_has_text : (v : Version) (plan : List Phase) (h : Head) (lists : List (List Cluster)) → 2 ≤ length plan → length plan ≤ 4 → length lists ≡ length plan → IsWritableHead h → Says v plan lists → HasText plan h lists
 said_has_text v plan h lists low high each small says = record {
   count = (low, high);
   each = each;
-  phases = All-weaker (IsSaidPhase v) IsWritable (λ p said. said.fits) plan (All-from_recursion (IsSaidPhase v) plan says.phases);
+  phases = All-weaker (IsSaidPhase v) HasU32Times (λ p said. said.fits) plan (All-from_recursion (IsSaidPhase v) plan says.phases);
   head = small;
   clusters = All-weaker (All (IsSaidCluster v)) (All IsWritableCluster) (λ cs said. All-weaker (IsSaidCluster v) IsWritableCluster (λ c one. one.fits) cs said) lists
       (All-from_recursion (All (IsSaidCluster v)) lists (all_within (IsSaidCluster v) lists says.clusters));

@@ -5,7 +5,7 @@ use Rattle.std.specs.Fmt.{decimal}
 pub use Rattle.text_lines.specs.Lines.{line}
 pub use Rattle.instance_form.specs.Versions.{version_of}
 use Rattle.phase_plan.specs.declared.Phase.{Phase}
-use Rattle.phase_plan.specs.Phases.{is_free}
+use Rattle.phase_plan.specs.Phases.{HasU32Times, is_free}
 use Rattle.switch_rules.specs.declared.Head.{Head}
 use Rattle.switch_rules.specs.declared.Cluster.{Cluster}
 use Rattle.instance_form.specs.declared.form.Version.{Version}
@@ -81,15 +81,7 @@ whole_text free plan head lists = form_text (version_of free plan lists) plan he
 abbrev pub instance_text : List Phase → Head → List (List Cluster) → List ℕ
 instance_text plan head lists = whole_text (is_free plan) plan head lists
 
--- the numbers of a phase, of a head and of a cluster are below their types' limits
-pub record IsWritable (p : Phase) : Type 0 where
-  pub least : p.least < 2 ^ 32
-  pub greatest : p.greatest < 2 ^ 32
-  pub yellow : p.yellow < 2 ^ 32
-  pub clear : p.clear < 2 ^ 32
-  pub loss : p.loss < 2 ^ 32
-  pub wait : p.wait < 2 ^ 32
-
+-- the numbers of a head and of a cluster are below their types' limits
 pub record IsWritableHead (h : Head) : Type 0 where
   pub phase : h.phase < 2 ^ 8
   pub since : h.since < 2 ^ 32
@@ -105,7 +97,7 @@ pub record IsWritableCluster (c : Cluster) : Type 0 where
 pub record HasText (plan : List Phase) (h : Head) (lists : List (List Cluster)) : Type 0 where
   pub count : (2 ≤ length plan) × (length plan ≤ 4)
   pub each : length lists ≡ length plan
-  pub phases : All IsWritable plan
+  pub phases : All HasU32Times plan
   pub head : IsWritableHead h
   pub clusters : All (All IsWritableCluster) lists
 

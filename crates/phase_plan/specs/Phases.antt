@@ -1,5 +1,5 @@
 -- The phases of an intersection: their bounds, the ring, and why phases are no plan.
-use Rattle.std.specs.Prelude.{◌≡◌, ℕ, ◌+◌, ◌-◌, ◌<◌, ◌≤◌, ◌⊎◌, ◌≢◌, Bool, true, false, not, List, [], ◌++◌, length, All, map, filter, count_by, sum_by, slice_index_or, nat_lt, ◌==◌, ◌||◌, ◌&&◌, if◌then◌else◌}
+use Rattle.std.specs.Prelude.{◌≡◌, ℕ, ◌+◌, ◌-◌, ◌^◌, ◌<◌, ◌≤◌, ◌⊎◌, ◌≢◌, Bool, true, false, not, List, [], ◌++◌, length, All, map, filter, count_by, sum_by, slice_index_or, nat_lt, ◌==◌, ◌||◌, ◌&&◌, if◌then◌else◌}
 use Rattle.std.specs.List.{range_with_len}
 use Rattle.foundation.specs.Firsts.{IsFirstAt, IsFirstOfRanks}
 use Rattle.phase_plan.specs.declared.Phase.{Phase}
@@ -128,6 +128,15 @@ pub record AreSwitchTimesFrom (plan : List Phase) (s : ℕ) (row : List ℕ) : T
 pub record AreSwitchTimes (plan : List Phase) (rows : List (List ℕ)) : Type 0 where
   pub room : length rows ≡ 4
   pub each : (s : ℕ) → s < length plan → AreSwitchTimesFrom plan s (slice_index_or rows s [])
+
+-- the times of a phase are u32, as those of the code are
+pub record HasU32Times (p : Phase) : Type 0 where
+  pub least : p.least < 2 ^ 32
+  pub greatest : p.greatest < 2 ^ 32
+  pub yellow : p.yellow < 2 ^ 32
+  pub clear : p.clear < 2 ^ 32
+  pub loss : p.loss < 2 ^ 32
+  pub wait : p.wait < 2 ^ 32
 
 -- the order in which the fields are judged
 abbrev pub rank : Field → ℕ

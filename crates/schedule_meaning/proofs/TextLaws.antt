@@ -9,8 +9,8 @@ use Rattle.phase_plan.specs.declared.Phase.{Phase}
 use Rattle.switch_rules.specs.declared.Head.{Head}
 use Rattle.switch_rules.specs.declared.Cluster.{Cluster}
 use Rattle.instance_form.specs.declared.form.Version.{Version}
-use Rattle.instance_form.specs.InstanceText.{version_of, line, first_line, count_line, phase_line, head_line, cluster_numbers, cluster_line, cluster_lines, form_text, instance_text, whole_text, HasText, IsFreeWhere, IsWritable, IsWritableCluster}
-use Rattle.phase_plan.specs.Phases.{IsPhase, IsRing, is_free, is_unmarked, no_phase}
+use Rattle.instance_form.specs.InstanceText.{version_of, line, first_line, count_line, phase_line, head_line, cluster_numbers, cluster_line, cluster_lines, form_text, instance_text, whole_text, HasText, IsFreeWhere, IsWritableCluster}
+use Rattle.phase_plan.specs.Phases.{HasU32Times, IsPhase, IsRing, is_free, is_unmarked, no_phase}
 use Rattle.switch_rules.specs.Serving.{IsCluster}
 use Rattle.instance_form.specs.Lengths.{most_cluster_bytes, most_other_bytes}
 use Rattle.instance_form.proofs.LengthLaws.{text-le}
@@ -69,7 +69,7 @@ form-plan free plan p ring same law = subst (λ (b : Bool). IsPlanWhere b plan) 
 
 -- an instance has a text
 
-phase-fits : (p : Phase) → IsPhase p → IsWritable p
+phase-fits : (p : Phase) → IsPhase p → HasU32Times p
 phase-fits p h = record {
   least = omega (arith, h.least);
   greatest = omega (arith, h.greatest);
