@@ -115,21 +115,21 @@ module _ (net : Net) (shown : ℕ → ℕ → Sign) (l : ℕ) where
       since-still (is_green net shown l) y ∙ ap (λ (b : Bool). cond b (min (lit_since (is_green net shown l) (suc y)) (suc y)) never) (green-at y node to ∙ plain y (shown y node) none ∙ sym (plain (suc y) (shown y node) none))
 
 -- where no link has a walk
-no-walk : (net : Net) → has_walks net ≡ false → (l : ℕ) → walk_at net l ≡ None
+pub no-walk : (net : Net) → has_walks net ≡ false → (l : ℕ) → (link_at net l).walk ≡ None
 no-walk net none l = elim (cases_lt l (length net.links)) [
   | inl inside ↦ by (link_at net l).walk (λ some. false≢true (sym none ∙ list_any_at (λ (k : Link). is_some k.walk) net.links l no_link inside some))
-  | inr past ↦ ap (λ (k : Link). option_map (λ (w : Walk). w.seconds) k.walk) (get_or_past net.links l no_link past)
+  | inr past ↦ ap (λ (k : Link). k.walk) (get_or_past net.links l no_link past)
 ]
   where
-    by : (walk : Option Walk) → (is_some walk ≡ true → ⊥) → option_map (λ (w : Walk). w.seconds) walk ≡ None
+    by : (walk : Option Walk) → (is_some walk ≡ true → ⊥) → walk ≡ None
     by None never_some = refl
     by (Some w) never_some = absurd (never_some refl)
 
 -- what is kept of lights changes only where signs do
 pub are-lit : (net : Net) (shown : ℕ → ℕ → Sign) (x : ℕ) (signs : List Sign) (since : List ℕ) → AreShown net shown x signs since
-    → ((l node : ℕ) → l < length net.link_names → (link_at net l).to ≡ Some node → node < length net.node_names) → has_walks net ≡ false → AreLit net x signs since
-are-lit net shown x signs since are ends none l node inside to =
-    are.since l inside ∙ lit-still net shown l x node to (no-walk net none l)
+    → ((l node : ℕ) → l < length net.link_names → (link_at net l).to ≡ Some node → node < length net.node_names) → AreLit net x signs since
+are-lit net shown x signs since are ends l node inside to none =
+    are.since l inside ∙ lit-still net shown l x node to (ap (option_map (λ (w : Walk). w.seconds)) none)
     ∙ ap (λ (s : Sign). lit_on net l x s (lit_since (is_green net shown l) x)) (sym (are.signs node (ends l node inside to)))
     ∙ ap (lit_on net l x (slice_index_or signs node Dark)) (sym (are.since l inside))
 

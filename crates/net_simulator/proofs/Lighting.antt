@@ -39,6 +39,17 @@ module _ (net : Net) (x node : ℕ) (sign : Sign) (links since0 : List ℕ) (ris
         rest = λ k none. get_or-set_other since e k v 0 (λ same. none n (omega arith) (sym same)) ∙ before.rest k (λ i less. none i (omega (arith, less)));
       }
 
+  -- one link more, which stays as it is
+  pub lit-kept : (n : ℕ) (since : List ℕ) → AreLitTo net x sign links since0 n since → n < length links → slice_index since0 (slice_index links n) ≡ lit_on net (slice_index links n) x sign (slice_index since0 (slice_index links n))
+      → AreLitTo net x sign links since0 (n + 1) since
+  lit-kept n since before inside still = record {
+    here = λ i h. elim (eqb_tells i n) [
+      | inl p ↦ rw p.1 (before.rest (slice_index links n) (λ i less. differ i n less inside) ∙ still)
+      | inr q ↦ let ne = q.1 in before.here i (omega (arith, h))
+    ];
+    rest = λ k none. before.rest k (λ i less. none i (omega (arith, less)));
+  }
+
   module _ (since : List ℕ) (all : AreLitTo net x sign links since0 (length links) since) where
     pub lit-here : (l : ℕ) → Contains links l → slice_index since l ≡ lit_on net l x sign (slice_index since0 l)
     lit-here l has =
@@ -57,9 +68,17 @@ pub record AreLookedAt (net : Net) (x : ℕ) (told : ℕ → Sign) (signs0 : Lis
   pub none : (l : ℕ) → l < length net.link_names → (link_at net l).to ≡ None → slice_index fs l ≡ slice_index since0 l
 
 module _ (net : Net) (x : ℕ) (told : ℕ → Sign) (signs0 : List Sign) (since0 : List ℕ) (node : ℕ) (signs : List Sign) (since : List ℕ) (before : AreLookedAt net x told signs0 since0 node signs since) where
-  -- a node whose sign is as it was
-  pub same-node : AreLit net x signs0 since0 → slice_index_or signs node Dark ≡ told node → AreLookedAt net x told signs0 since0 (node + 1) signs since
-  same-node lit same = record {
+  -- a link without a walk, at a node whose sign is as it was
+  pub still-link : AreLit net x signs0 since0 → slice_index_or signs node Dark ≡ told node → (l : ℕ) → l < length net.link_names → (link_at net l).to ≡ Some node → (link_at net l).walk ≡ None
+      → slice_index since l ≡ lit_on net l x (told node) (slice_index since l)
+  still-link lit same l inside to none =
+      let was = before.rest l node inside to (omega arith) in
+      let sign : slice_index_or signs0 node Dark ≡ told node = sym (before.others node (omega arith)) ∙ same in
+      was ∙ lit l node inside to none ∙ ap (λ (s : Sign). lit_on net l x s (slice_index since0 l)) sign ∙ ap (lit_on net l x (told node)) (sym was)
+
+  -- a node whose sign is as it was, where no link has a walk
+  pub same-node : AreLit net x signs0 since0 → ((l : ℕ) → (link_at net l).walk ≡ None) → slice_index_or signs node Dark ≡ told node → AreLookedAt net x told signs0 since0 (node + 1) signs since
+  same-node lit plain same = record {
     signs = λ n h. elim (eqb_tells n node) [
       | inl p ↦ rw p.1 same
       | inr q ↦ let ne = q.1 in before.signs n (omega (arith, h))
@@ -68,7 +87,7 @@ module _ (net : Net) (x : ℕ) (told : ℕ → Sign) (signs0 : List Sign) (since
     here = λ l n inside to h. elim (eqb_tells n node) [
       | inl p ↦
           let sign : slice_index_or signs0 n Dark ≡ told n = sym (before.others n (let e = p.1 in omega arith)) ∙ ap (λ k. slice_index_or signs k Dark) p.1 ∙ same ∙ ap told (sym p.1) in
-          before.rest l n inside to (let e = p.1 in omega arith) ∙ lit l n inside to ∙ ap (λ (s : Sign). lit_on net l x s (slice_index since0 l)) sign
+          before.rest l n inside to (let e = p.1 in omega arith) ∙ lit l n inside to (plain l) ∙ ap (λ (s : Sign). lit_on net l x s (slice_index since0 l)) sign
       | inr q ↦ let ne = q.1 in before.here l n inside to (omega (arith, h))
     ];
     rest = λ l n inside to h. before.rest l n inside to (omega (arith, h));

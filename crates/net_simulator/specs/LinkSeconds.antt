@@ -1,5 +1,5 @@
 -- What a second is at a link, by what a world keeps: a number for each link, or a row of 128 seconds for each.
-use Rattle.std.specs.Prelude.{◌≡◌, ℕ, ◌+◌, ◌-◌, ◌<◌, nat_le, nat_lt, Bool, not, ◌&&◌, if◌then◌else◌, List, Some, length, map, slice_index, slice_index_or}
+use Rattle.std.specs.Prelude.{◌≡◌, ℕ, ◌+◌, ◌-◌, ◌<◌, nat_le, nat_lt, Bool, not, ◌&&◌, if◌then◌else◌, List, None, Some, length, map, slice_index, slice_index_or}
 use Rattle.std.specs.List.{list_any, range_with_len}
 use Rattle.net_parts.specs.Numbers.{Net}
 use Rattle.net_parts.specs.Outline.{link_at, plan_at, yields_at}
@@ -10,11 +10,11 @@ use Rattle.net_simulator.specs.Flow.{is_lost}
 use Rattle.net_simulator.specs.LinkGreens.{lit_on, loss_of}
 use Rattle.net_simulator.specs.Rows.{cell, kept_seconds}
 
--- For each link that ends at a node, `since` is what it is after second x too, if the nodes show these signs in it: a second up to x where the
--- link is green under its node's sign, and `never` where it is not.
+-- For each link without a walk that ends at a node, `since` is what it is after second x too, if the nodes show these signs in it: a second up to
+-- x where the link is green under its node's sign, and `never` where it is not.
 abbrev pub AreLit : Net → ℕ → List Sign → List ℕ → Type 0
 AreLit net x signs since =
-    (l node : ℕ) → l < length net.link_names → (link_at net l).to ≡ Some node
+    (l node : ℕ) → l < length net.link_names → (link_at net l).to ≡ Some node → (link_at net l).walk ≡ None
     → slice_index since l ≡ lit_on net l x (slice_index_or signs node Dark) (slice_index since l)
 
 -- whether link l of a node may discharge in second x under this sign, where `waits` has the queues after each second, and `since` the second

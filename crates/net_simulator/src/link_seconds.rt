@@ -48,7 +48,7 @@ fn is_walked(net: &Network, l: u32, second: u32, sign: Sign, walk: u32) -> bool
     let Sign::On { phase, since } = sign else {
         return false;
     };
-    net.is_green(l, phase) && u64::from(second) < u64::from(since) + u64::from(walk)
+    u64::from(second) < u64::from(since) + u64::from(walk) && net.is_green(l, phase)
 }
 
 /// Whether a link without a walk is green where the node at its end shows this sign.
@@ -75,30 +75,47 @@ fn lit_on(net: &Network, l: u32, second: u32, sign: Sign, since: u32) -> u32
     }
 }
 
-/// Notes since when the links that end at a node are green, where the node shows this sign in this second.
-fn light(since: &mut [u32], net: &Network, node: u32, sign: Sign, second: u32)
+/// Whether a link may be green otherwise than in the second before: its node has another sign, or the link has a walk.
+fn may_differ(net: &Network, l: u32, is_other: bool) -> bool
+    requires { l < length net.now.link_names }
+    ensures { result ≡ false → (is_other ≡ false) × ((link_at net.now l).walk ≡ None) }
+{
+    match net.link(l).walk {
+        None => is_other,
+        Some(_) => true,
+    }
+}
+
+/// Notes since when the links that end at a node are green, where the node shows this sign in this second. Where that is no other sign than
+/// before, those without a walk stay as they are.
+fn light(since: &mut [u32], net: &Network, node: u32, sign: Sign, second: u32, is_other: bool)
     requires node { node < length net.now.node_names }
     requires since { length since.old ≡ length net.now.link_names }
+    requires lit { (l : ℕ) → l < length net.now.link_names → (link_at net.now l).to ≡ Some node
+        → is_other ≡ false → (link_at net.now l).walk ≡ None
+        → slice_index since.old l ≡ lit_on net.now l second sign (slice_index since.old l) }
     ensures here { (l : ℕ) → l < length net.now.link_names → (link_at net.now l).to ≡ Some node
         → slice_index since.new l ≡ lit_on net.now l second sign (slice_index since.old l) }
     ensures others { (l : ℕ) → l < length net.now.link_names → (link_at net.now l).to ≢ Some node
         → slice_index since.new l ≡ slice_index since.old l }
 {
     for &l in net.entry_links(node) {
-        let place = l as usize;
-        since[place] = lit_on(net, l, second, sign, since[place]);
+        if may_differ(net, l, is_other) {
+            let place = l as usize;
+            since[place] = lit_on(net, l, second, sign, since[place]);
+        }
     }
 }
 
-/// Whether no link has a walk, so that only a change of signs changes what is green, and two signs are the same.
-fn stays(walks: bool, one: Sign, other: Sign) -> bool
-    ensures { IsTrue result ↔ (walks ≡ false) × (one ≡ other) }
+/// Whether two signs are not the same.
+fn differ(one: Sign, other: Sign) -> bool
+    ensures { result ≡ false → one ≡ other }
 {
-    !walks && one == other
+    one != other
 }
 
 /// Looks once at the light of each node: `signs` gets the signs of the nodes in this second, in their order, and `since` the second
-/// since which each link is green. Where no link has a walk, links are looked at only at a node whose sign has changed.
+/// since which each link is green. At a node whose sign is as before only the links with a walk are looked at, and no link where none has a walk.
 ///
 /// docs/RULES.md, "World".
 pub fn look<T: Lights>(
@@ -112,7 +129,7 @@ pub fn look<T: Lights>(
     requires signs { length signs.old ≡ length net.now.node_names }
     requires since { length since.old ≡ length net.now.link_names }
     requires walks { walks ≡ has_walks net.now }
-    requires lit { walks ≡ false → AreLit net.now second signs.old since.old }
+    requires lit { AreLit net.now second signs.old since.old }
     ensures signs { (n : ℕ) → n < length net.now.node_names
         → slice_index_or signs.new n Dark ≡ sign_at (T.lines lights.now n) second }
     ensures since { (l node : ℕ) → l < length net.now.link_names → (link_at net.now l).to ≡ Some node
@@ -123,9 +140,10 @@ pub fn look<T: Lights>(
 {
     for node in 0..net.nodes() {
         let sign = lights.sign(node, second);
-        if !stays(walks, signs[node as usize], sign) {
+        let is_other = differ(signs[node as usize], sign);
+        if walks || is_other {
             signs[node as usize] = sign;
-            light(since, net, node, sign, second);
+            light(since, net, node, sign, second, is_other);
         }
     }
 }

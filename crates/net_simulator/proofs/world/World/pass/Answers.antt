@@ -10,12 +10,12 @@ use Rattle.net_simulator.proofs.world.World.pass.Goals as goal
 use Rattle.control_flow.specs.declared.greens.Sign.TheVariants.{Dark}
 
 pub look-requires-clause-lit : goal.look-requires-clause-lit
-look-requires-clause-lit g c none =
+look-requires-clause-lit g c =
     let shown = signs_by (g.T.Lights.lines c.args.lights.now) in
     let stands : Stands c.args.net.now (arriving_of c.args.arrivals.now) shown (the_view c.self.inside) = subst (Stands c.args.net.now (arriving_of c.args.arrivals.now) shown) (sym c.self.view_is) c.requires.stands in
     are-lit c.args.net.now shown c.self.inside.second c.as_mut_slice.result.now c.as_mut_slice-2.result.now
     (lights-parts c.args.net.now shown c.self.inside.second _ c.as_mut_slice.result.now _ c.as_mut_slice-2.result.now c.as_mut_slice.ensures.value c.as_mut_slice-2.ensures.value stands.lights)
-    (bounds-of c.args.net.now c.law_of_network.ensures).ends (sym stands.shape.walks ∙ none)
+    (bounds-of c.args.net.now c.law_of_network.ensures).ends
 
 pub look-requires-clause-walks : goal.look-requires-clause-walks
 look-requires-clause-walks g c = ap (λ w. w.walks) c.self.view_is ∙ c.requires.stands.shape.walks

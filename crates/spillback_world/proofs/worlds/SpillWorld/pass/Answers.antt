@@ -11,12 +11,12 @@ use Rattle.spillback_world.specs.contracts.worlds.SpillWorld.{the_view}
 use Rattle.spillback_world.proofs.worlds.SpillWorld.pass.Goals as goal
 
 pub look-requires-clause-lit : goal.look-requires-clause-lit
-look-requires-clause-lit g c none =
+look-requires-clause-lit g c =
     let shown = signs_by (g.T.Lights.lines c.args.lights.now) in
     let stands : Stands c.args.net.now (arriving_of c.args.arrivals.now) (slice_index c.args.store.now) shown (the_view c.self.inside) = subst (Stands c.args.net.now (arriving_of c.args.arrivals.now) (slice_index c.args.store.now) shown) (sym c.self.view_is) c.requires.stands in
     are-lit c.args.net.now shown c.self.inside.second c.as_mut_slice.result.now c.as_mut_slice-2.result.now
     (lights-parts c.args.net.now shown c.self.inside.second _ c.as_mut_slice.result.now _ c.as_mut_slice-2.result.now c.as_mut_slice.ensures.value c.as_mut_slice-2.ensures.value stands.lights)
-    (bounds-of c.args.net.now c.law_of_network.ensures).ends (sym stands.shape.walks ∙ none)
+    (bounds-of c.args.net.now c.law_of_network.ensures).ends
 
 pub look-requires-clause-walks : goal.look-requires-clause-walks
 look-requires-clause-walks g c = ap (λ w. w.walks) c.self.view_is ∙ c.requires.stands.shape.walks
