@@ -1,5 +1,6 @@
 //! What the records of a state tell.
 ghost use Rattle.std.specs.Prelude.{◌≡◌, ◌<◌, IfSome, length};
+ghost use Rattle.net_parts.specs.Numbers.{number_of};
 ghost use Rattle.road_net.specs.Network.{IsNetwork};
 ghost use Rattle.round_states.specs.StateRecords.{entry_link_of, place_of, told_link_of};
 
@@ -44,27 +45,38 @@ pub(crate) struct Entry {
 }
 
 /// The number of the node or link that a record names; none where the network has none with this name of which the
-/// record can speak.
-pub(crate) fn place_of(net: &Network, content: &StateRecord, name: &[u8]) -> Option<u32>
+/// record can speak. Records of one link follow one another, so a link is tried first: the one with the number `near`.
+pub(crate) fn place_of(net: &Network, content: &StateRecord, name: &[u8], near: u32) -> Option<u32>
     requires { IsNetwork net.now }
     ensures { result ≡ place_of net.now content.now name.now }
 {
     match content {
         StateRecord::Begins(_) | StateRecord::Ignored => Some(0),
         StateRecord::Shows(_) => node_named(net, name),
-        StateRecord::Stands(_) | StateRecord::Comes(_) => entry_link(net, name),
-        StateRecord::Publishes(_) | StateRecord::Tells(_) => told_link(net, name),
+        StateRecord::Stands(_) | StateRecord::Comes(_) => entry_link(net, name, near),
+        StateRecord::Publishes(_) | StateRecord::Tells(_) => told_link(net, name, near),
     }
+}
+
+/// The number of the link with this name; the one with the number `near` is tried first.
+fn link_near(net: &Network, name: &[u8], near: u32) -> Option<u32>
+    requires { IsNetwork net.now }
+    ensures { result ≡ number_of net.now.link_names name.now }
+{
+    if near < net.links() && net.link_name(near).as_bytes() == name {
+        return Some(near);
+    }
+    link_named(net, name)
 }
 
 /// The number of the entry link with this name.
 #[tactic(auto, unfolding(crate::specs::StateRecords::entry_link_of))]
-fn entry_link(net: &Network, name: &[u8]) -> Option<u32>
+fn entry_link(net: &Network, name: &[u8], near: u32) -> Option<u32>
     requires { IsNetwork net.now }
     ensures value { result ≡ entry_link_of net.now name.now }
     ensures below { IfSome result (λ link. link < length net.now.link_names) }
 {
-    let link = link_named(net, name)?;
+    let link = link_near(net, name, near)?;
     if net.link(link).to.is_some() {
         Some(link)
     } else {
@@ -74,11 +86,11 @@ fn entry_link(net: &Network, name: &[u8]) -> Option<u32>
 
 /// The number of the link with this name on which a node tells another one.
 #[tactic(auto, unfolding(crate::specs::StateRecords::told_link_of))]
-fn told_link(net: &Network, name: &[u8]) -> Option<u32>
+fn told_link(net: &Network, name: &[u8], near: u32) -> Option<u32>
     requires { IsNetwork net.now }
     ensures { result ≡ told_link_of net.now name.now }
 {
-    let link = entry_link(net, name)?;
+    let link = entry_link(net, name, near)?;
     if net.link(link).from.is_some() {
         Some(link)
     } else {

@@ -116,6 +116,14 @@ impl StateReader {
         }
     }
 
+    /// The number of the node or link of the last record; 0 where there is none.
+    fn last_place(&self) -> u32 {
+        match self.all.last() {
+            Some(entry) => entry.place,
+            None => 0,
+        }
+    }
+
     /// Adds what the record with this number tells.
     fn add(&mut self, net: &Network, entry: Entry, number: u32) -> Result<(), StateFault>
         ensures { Adds net.now entry number self.old self.new result }
@@ -128,16 +136,16 @@ impl StateReader {
     }
 }
 
-/// What the record with this number tells.
+/// What the record with this number tells; the link with the number `near` is tried first.
 #[tactic(auto, unfolding(crate::specs::StateRecords::parse_in))]
-fn read_entry(net: &Network, row: &ByteRecord, number: u32) -> Result<Entry, StateFault>
+fn read_entry(net: &Network, row: &ByteRecord, number: u32, near: u32) -> Result<Entry, StateFault>
     requires { IsNetwork net.now }
     ensures { Reads net.now (fields_of row.now) number result }
 {
     let Some((name, content)) = read_said(row) else {
         return Err(StateFault::Row(number));
     };
-    match place_of(net, &content, name) {
+    match place_of(net, &content, name, near) {
         Some(place) => Ok(Entry { place, content }),
         None => Err(StateFault::Name(number)),
     }
@@ -166,7 +174,7 @@ impl RecordTaker for StateReader {
         row: &ByteRecord,
         number: u32,
     ) -> Result<(), StateFault> {
-        let entry = read_entry(net, row, number)?;
+        let entry = read_entry(net, row, number, self.last_place())?;
         self.add(net, entry, number)
     }
 }
