@@ -106,6 +106,14 @@ class NodeTest(unittest.TestCase):
         node = Node("a", moves("west_0", "south_0"), states, Crossroads(), {walk: 9.0, other: 9.0})
         self.assertEqual([(group.edge, group.home) for group in node.groups if group.cross], [(":j_c0_0", 0), (":j_c1_0", 1)])
 
+    def test_crossings_with_the_same_greens_as_one(self) -> None:
+        """It is as long as the longest of them, and a crossing with other greens stays."""
+        walks = {Movement(f":j_c{n}_0", "", 2 + n, "j", 2 + n, "walk"): metres for n, metres in enumerate((9.0, 14.5, 6.0))}
+        states = [(30, "GrGGr"), (3, "yrrrr"), (20, "rGrrG"), (3, "ryrrr")]
+        node = Node("a", moves("west_0", "south_0"), states, Crossroads(), walks)
+        found = [(group.lanes, group.cross, group.home) for group in node.walks_alike() if group.cross]
+        self.assertEqual(found, [([":j_c0_0", ":j_c1_0"], 13, 0), ([":j_c2_0"], 5, 1)])
+
     def test_no_nodes(self) -> None:
         one = Node("a", moves("west_0"), [(30, "G"), (3, "y")], Crossroads())
         self.assertEqual([loss.kind for loss in one.reasons()], ["one phase"])
@@ -295,9 +303,12 @@ class NetworkTest(unittest.TestCase):
         self.assertEqual(*came)
 
     def test_there_and_back_at_odd_angles(self) -> None:
-        """Random networks with a vehicle for each turn: a ring with a green that goes on, and crossings with who meets them."""
+        """Random networks with a vehicle for each turn: a ring with a green that goes on, and crossings with who meets them.
+
+        In the last one a signal would have more than 16 links, did not crossings with the same greens count as one.
+        """
         words = "--rand --rand.iterations 14 --turn-lanes 1 --turn-lanes.length 60 --tls.guess --tls.guess.threshold 20 --no-turnarounds"
-        for seed, more in (("3", ""), ("2", "--crossings.guess --sidewalks.guess"), ("6", "--crossings.guess --sidewalks.guess")):
+        for seed, more in (("3", ""), *((seed, "--crossings.guess --sidewalks.guess") for seed in "267")):
             net = self.folder / f"random{seed}.net.xml"
             subprocess.run(["netgenerate", *words.split(), "--seed", seed, *more.split(), "-o", net], check=True, capture_output=True)
             streets = Streets(net)

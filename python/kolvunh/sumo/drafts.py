@@ -159,6 +159,7 @@ class Draft:
         """The crossings of the nodes that vehicles meet, each a link from outside, and who comes to them."""
         places = {}
         for name in self.met():
+            self._spare_walks(name)
             for number, group in enumerate(self.nodes[name].groups):
                 if group.cross is not None:
                     key, exit = (None, name, number), (name, None, "on foot")
@@ -168,6 +169,15 @@ class Draft:
         for walker in self._walkers:
             if walker.edges[0] in places:
                 self.arrivals.append((int(walker.second), places[walker.edges[0]]))
+
+    def _spare_walks(self, name: str) -> None:
+        """Has one link for the crossings of a node with the same greens, where it has too many links else, and says where that is so."""
+        node, driven = self.nodes[name], len(self.links_to(name))
+        greens = [group.shown for group in node.groups if group.cross is not None]
+        if driven + len(greens) > MOST_GROUPS >= driven + len(set(greens)):
+            node.groups = node.walks_alike()
+        if any(group.cross is not None and len(group.lanes) > 1 for group in node.groups):
+            self.told[f"signal {name} has more than {MOST_GROUPS} links: crossings with the same greens are one"] = 0
 
     def met(self) -> list[str]:
         """The signals that vehicles meet."""

@@ -182,6 +182,20 @@ class Node:
                 self._lose("crossing never green", f"crossing {move.lane} is never green: it is no link")
         return iter(merged.values())
 
+    def walks_alike(self) -> list[Group]:
+        """Its groups, where crossings with the same greens are one."""
+        merged: dict[object, Group] = {}
+        for number, group in enumerate(self.groups):
+            key = group.shown if group.cross is not None else number
+            if key in merged:
+                merged[key].lanes += group.lanes
+                merged[key].moves += group.moves
+                merged[key].cross = max(merged[key].cross or 0, group.cross or 0)
+                merged[key].home = self._home(merged[key], self.used) or 0
+            else:
+                merged[key] = group
+        return list(merged.values())
+
     def _home(self, group: Group, phases: Iterable[int]) -> int | None:
         """The phase of these in which a group has its home."""
         free = {phase: sum(self.letter(phase, move) == "G" for move in group.moves) for phase in phases if phase in group.greens}
