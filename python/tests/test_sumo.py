@@ -7,6 +7,7 @@ import tempfile
 import unittest
 from collections import Counter
 from pathlib import Path
+from types import SimpleNamespace
 
 from kolvunh.sumo.layout import SUMO_HOME, Layout, read_places, read_tables, vehicles, walkers
 from kolvunh.sumo.loop import Loop, Sensors, repeat_arrivals, run_loop, seconds_to_end
@@ -106,6 +107,25 @@ class LayoutTest(unittest.TestCase):
         self.assertEqual(sensors.tell(1, ("a", "west_in", 3, 80), ("b", "west_in", 7, 5))[0], Counter(west_in=2))
         queues, coming = sensors.tell(2, ("a", "west_in", 5, 76), ("b", "first_second", 9, 90))
         self.assertEqual((queues, list(coming)), (Counter(west_in=1), [("first_second", 2 + seconds_to_end(90, 9))]))
+
+    def test_who_passes_in_any_case(self):
+        """On a green link whoever is within a second of the line is counted no longer, and others come a second earlier."""
+        sensors = ToldSensors(Layout(CORRIDOR))
+        sensors._early = {"west_in": 1, "first_second": 1}
+        told = ("a", "west_in", 12, 11), ("b", "west_in", 12, 13), ("c", "west_in", 4, 5), ("d", "first_second", 13.89, 90)
+        for phase, end, wanted in ((0, 9, {("west_in", 0): 1}), (0, 0, {("west_in", 0): 2}), (1, 9, {("west_in", 0): 2})):
+            sensors._told = told
+            queues, coming = sensors.look(0, {"first": [(phase, 0, end)], "second": [(0, 0, 9)]})
+            self.assertEqual((queues, coming), (Counter(west_in=1), {**wanted, ("first_second", 5): 1}))
+
+    def test_links_that_end_early(self):
+        """They are those of nodes where nobody gives way: not where turns to the left meet who comes from the front."""
+        sumo = SimpleNamespace(lane=SimpleNamespace(getLength=lambda lane: 100))
+        signals = SimpleNamespace(layout=Layout(CORRIDOR), links_of={}, junctions=SimpleNamespace(after={}))
+        for state, links in (("Gr", {"west_in", "second_first", "side_first"}), ("Gg", set())):
+            signals.green = {"first": [state, "rG"]}
+            self.assertEqual(set(Sensors(sumo, signals, 1)._early), links)
+            self.assertEqual(set(Sensors(sumo, signals)._early), set())
 
     def test_how_soon_a_vehicle_comes(self):
         # 90 m at 13.89 m/s are 6.5 s; from a stand 2.7 s go by in speeding up: 13.89 m/s at 2.6 m/s in a second, by half

@@ -1,8 +1,8 @@
 """Runs a network in SUMO under several controllers, with several seeds each, and prints a Markdown table of means and spreads.
 
-    tools/sumo/compare_sumo.py NET PLACES ARR DIR [--seeds N] [--at-once] [--controllers NAME ..] [--program WORDS] [--jobs N]
+    tools/sumo/compare_sumo.py NET PLACES ARR DIR [--seeds N] [--at-once] [--early] [--controllers NAME ..] [--program WORDS] [--jobs N]
 
-The controllers: `decide`, the program in the loop (loop.py); `pressure`, max-pressure of the package, which looks each second;
+The controllers: `decide`, the program in the loop (loop.py, and so is --early); `pressure`, max-pressure of the package, which looks each second;
 `turns` and `actuate`, the greens of the program's reports replayed; and SUMO's own `actuated` and `delay_based`, within the least and greatest greens of the network, and `fixed`, the
 plan that SUMO's tools make of the vehicles that come (tlsCycleAdaptation.py, and tlsCoordinator.py where there are several
 nodes). A seed draws the turns of the vehicles and SUMO's drivers; with --at-once these stop and start at once. The seconds in
@@ -21,7 +21,7 @@ from ..commands import Words, end
 from ..faults import Fault
 from ..programs import built_program_words
 from .layout import SUMO_HOME, read_greens, read_tables, read_places, vehicles
-from .loop import asker, run_control, run_loop
+from .loop import asker, early_sensors, run_control, run_loop
 from .measures import differences, last_line, outcome, run_words
 from .pressure import MaxPressure
 from .to_sumo import convert, element, report_programs, rings, write_routes
@@ -82,7 +82,7 @@ def one_run(options, signals, reports, task):
         words = run_words(options.folder, name, seed, signals)
         if name == "decide":
             with asker(options.program, options.network, options.folder / f"state.{seed}.csv") as ask:
-                greens = run_loop(signals, ask, words)
+                greens = run_loop(signals, ask, words, early_sensors(options.early))
         else:
             greens = run_control(signals, MaxPressure(signals), words)
     else:
@@ -113,6 +113,7 @@ def work() -> None:
         parser.add_argument(name, type=Path)
     parser.add_argument("--seeds", type=int, default=3)
     parser.add_argument("--at-once", action="store_true", help="vehicles stop and start at once")
+    parser.add_argument("--early", action="store_true", help="for `decide` links end before their stop lines where nobody gives way")
     parser.add_argument("--controllers", nargs="+", choices=CONTROLLERS, default=CONTROLLERS, metavar="NAME")
     parser.add_argument("--program", type=shlex.split, help="its words before the command; the built program if left out")
     parser.add_argument("--jobs", type=int, default=2, help="runs side by side")

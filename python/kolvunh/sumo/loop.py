@@ -1,10 +1,11 @@
 """Lets the program decide for SUMO's signals: senses SUMO's vehicles in each round, asks `serve`, shows the greens.
 
-    tools/sumo/loop.py NET PLACES ARR DIR [--seed N] [--hours H] [--program WORDS]
+    tools/sumo/loop.py NET PLACES ARR DIR [--seed N] [--hours H] [--early] [--program WORDS]
 
 PLACES is that of to_sumo.py, or `-`. A vehicle joins the queue of its entry link in the first second in which it is slower than
 5 m/s there, and is in it until it leaves the link; who waits before a crossing is in the queue of its link. Any other vehicle is
-coming, and reaches the end of its link as fast as it can speed up. Signals are set second by second. Afterwards what SUMO showed is
+coming, and reaches the end of its link as fast as it can speed up. With --early links end a second before their stop lines, where no driver
+stops any more, at nodes where nobody gives way: on a green link whoever drives past that place is counted no longer. Signals are set second by second. Afterwards what SUMO showed is
 compared with the greens that the program answered: the exit status is 1 where they differ. DIR/greens.csv has these greens as a
 report has them. With --hours it runs for so long in place of the network's rounds, and the vehicles of ARR come again each time that
 these are over. Nothing here is proved.
@@ -19,7 +20,9 @@ import subprocess
 import sys
 from bisect import bisect_right
 from collections import Counter, defaultdict
+from functools import partial
 from pathlib import Path
+from types import MappingProxyType
 
 from ..arrivals import Arrival, arrivals_text, read_arrivals
 from ..commands import Words, end
@@ -35,6 +38,7 @@ from .to_sumo import convert, write_routes
 sys.path.append(f"{SUMO_HOME}/tools")
 SLOW = 5  # metres a second, below which a vehicle joins the queue
 ACCELERATION = 2.6  # metres a second in a second, by which a vehicle speeds up: SUMO's own where a file says no other
+EARLY = 1  # seconds before the stop line at which a driver passes a signal that turns yellow
 VEHICLE = 1000  # thousandths of a vehicle
 KEPT = 10_800  # seconds of the clock that are kept: what a queue may have stood for and counts
 HOUR = 3600  # seconds
@@ -144,10 +148,17 @@ def seconds_to_end(way, speed):
 
 
 class Sensors:
-    """SUMO's vehicles on the entry links, and people who wait before crossings; who is within a junction begins the link it comes to."""
+    """SUMO's vehicles on the entry links, and people who wait before crossings; who is within a junction begins the link it comes to.
 
-    def __init__(self, traci, signals):
+    At nodes where nobody gives way links end so many seconds before their stop lines as `early` says.
+    """
+
+    _early = MappingProxyType({})
+
+    def __init__(self, traci, signals, early=0):
         self._queued, self._routes = set(), {}
+        free = {node for node, states in signals.green.items() if early and not any("g" in state for state in states)}
+        self._early = {link: early for link, (node, _) in signals.layout.phase_of.items() if node in free}
         self._traci, self._layout, self._links_of = traci, signals.layout, signals.layout.links_of_lane()
         self._walks = {edge_of(lane): links[0] for lane, links in signals.links_of.items() if links[0] in signals.layout.walks}
         self._after = signals.junctions.after
@@ -179,17 +190,37 @@ class Sensors:
             if crossing in self._walks and re.match(r":.*_w\d+$", self._traci.person.getRoadID(person)):
                 yield self._walks[crossing]
 
-    def look(self, now):
-        """The vehicles in each queue, and how many come to the end of each link in which second. It is asked in each second."""
+    def look(self, now, lines=MappingProxyType({})):
+        """The vehicles in each queue, and how many come to the end of each link in which second, under these lines of greens.
+
+        It is asked in each second.
+        """
         queues, coming, queued = Counter(self.people()), Counter(), set()
         for vehicle, link, speed, way in self.vehicles():
-            if speed < SLOW or (vehicle, link) in self._queued:
+            is_queued, early = speed < SLOW or (vehicle, link) in self._queued, self._early.get(link, 0)
+            if is_queued:
                 queued.add((vehicle, link))
+            if early and way <= early * speed and self._is_green(link, now, lines):
+                continue
+            if is_queued:
                 queues[link] += 1
             else:
-                coming[link, now + min(seconds_to_end(way, speed), self._layout.links[link]["travel"] - 1)] += 1
+                seconds = max(0, seconds_to_end(way, speed) - early)
+                coming[link, now + min(seconds, self._layout.links[link]["travel"] - 1)] += 1
         self._queued = queued
         return queues, coming
+
+    def _is_green(self, link, now, lines):
+        """Whether a link is green in a second under lines of greens."""
+        node = self._layout.phase_of[link][0]
+        rows = lines.get(node, [])
+        place = bisect_right(rows, now, key=lambda row: row[1]) - 1
+        return place >= 0 and now < rows[place][2] and (node, rows[place][0]) in self._layout.greens_of[link]
+
+
+def early_sensors(early):
+    """The sensors of a loop, with links that end before their stop lines or without."""
+    return partial(Sensors, early=EARLY) if early else Sensors
 
 
 def repeat_arrivals(path, period, seconds, to):
@@ -218,7 +249,7 @@ def run_control(signals, controller, words, sensors=Sensors):
     try:
         eyes = sensors(traci, signals)
         for now in range(signals.layout.seconds):
-            for node, line in controller.act(now, *eyes.look(now)).items():
+            for node, line in controller.act(now, *eyes.look(now, controller.lines)).items():
                 traci.trafficlight.setRedYellowGreenState(signals.tls(node), signals.at(node, line, now))
             traci.simulationStep()
         return controller.lines
@@ -238,6 +269,7 @@ def work() -> int:
         parser.add_argument(name, type=Path)
     parser.add_argument("--seed", type=int, default=1)
     parser.add_argument("--hours", type=float, help="how long it runs; as long as the network's rounds if left out")
+    parser.add_argument("--early", action="store_true", help="links end a second before their stop lines where nobody gives way")
     parser.add_argument("--program", type=shlex.split, help="its words before `serve`; the built program if left out")
     options = parser.parse_args()
     folder, seed = options.folder, options.seed
@@ -249,7 +281,7 @@ def work() -> int:
         repeat_arrivals(options.arrivals, period, signals.layout.seconds, arrivals)
     write_routes(signals.layout, arrivals, seed, folder / f"routes.{seed}.rou.xml")
     with asker(options.program or built_program_words(), options.network, folder / "state.csv") as ask:
-        lines = run_loop(signals, ask, run_words(folder, "loop", seed, signals))
+        lines = run_loop(signals, ask, run_words(folder, "loop", seed, signals), early_sensors(options.early))
     write_greens(folder / "greens.csv", lines)
     print(outcome(folder, "loop", seed))
     differing = list(differences(folder, "loop", seed, signals, lines))
