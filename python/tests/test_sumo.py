@@ -170,10 +170,9 @@ class LayoutTest(unittest.TestCase):
     def test_arrivals_come_again(self):
         with tempfile.TemporaryDirectory() as folder:
             path, to = Path(folder) / "arrivals.csv", Path(folder) / "again.csv"
-            path.write_text("second,link,amount\n1,a,1000\n9,b,500\n")
+            path.write_text("second,link,amount\n1,a,1000\n9,b,500\n10,a,1000\n")
             repeat_arrivals(path, 10, 25, to)
             self.assertEqual(to.read_text(), "second,link,amount\n1,a,1000\n9,b,500\n11,a,1000\n19,b,500\n21,a,1000\n")
-
 
     def test_for_how_long_a_queue_has_stood(self):
         """As in the world: the seconds before the round, back without a break, after which it was there (docs/RULES.md)."""

@@ -224,8 +224,8 @@ def early_sensors(early):
 
 
 def repeat_arrivals(path, period, seconds, to):
-    """Writes a file of arrivals again and again, so that those of a period come once in each, up to these seconds."""
-    arrivals = read_arrivals(path)
+    """Writes a file of arrivals again and again, so that those of a period come once in each, up to these seconds; later ones never come."""
+    arrivals = [arrival for arrival in read_arrivals(path) if arrival.second < period]
     again = [
         Arrival(begin + arrival.second, arrival.link, arrival.amount)
         for begin in range(0, seconds, period)
