@@ -17,7 +17,6 @@ A line for each order has its delay in vehicle seconds. The last two have the le
 import argparse
 import os
 import random
-import shlex
 import statistics
 import tempfile
 from collections.abc import Iterator
@@ -27,7 +26,7 @@ from pathlib import Path
 from .commands import Words, end
 from .faults import Fault
 from .networks import Network, read_network
-from .programs import built_program_words, run
+from .programs import built_program_words, run, split_words
 from .reports import HEADER
 
 FORWARD, BACKWARD, READ_FIRST, RANDOM = "forward", "backward", "read_first", "random"
@@ -75,7 +74,7 @@ def options_of() -> argparse.Namespace:
     parser.add_argument("arrivals", type=Path)
     parser.add_argument("--count", type=int, default=40)
     parser.add_argument("--seed", type=int, default=1)
-    parser.add_argument("--program", type=shlex.split, help="its words before the command; the built program if left out")
+    parser.add_argument("--program", type=split_words, help="its words before the command; the built program if left out")
     parser.add_argument("--jobs", type=int, default=os.cpu_count())
     parser.add_argument("--to", type=Path, metavar="FOLDER")
     options = parser.parse_args()

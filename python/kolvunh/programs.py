@@ -1,7 +1,7 @@
 """Runs the program `signal` and reads what it answers.
 
-The program is that of the environment variable KOLVUNH_PROGRAM, a path or words such as `ssh host signal`; else it is ./signal of the
-repository that this package is in, or of the current folder.
+The program is that of the environment variable KOLVUNH_PROGRAM, the path of a file or words such as `ssh host signal`; else it is ./signal of
+the repository that this package is in, or of the current folder.
 """
 
 import os
@@ -19,6 +19,7 @@ from .explain.calls import form_of
 from .faults import Fault
 from .frames import frame_of
 from .queues import Queues, queues_of
+from .records import quote
 from .reports import Records, records_of_report
 
 VARIABLE = "KOLVUNH_PROGRAM"
@@ -26,10 +27,19 @@ NOTICE = "signal: this program is not proved"
 STATUSES = ("Done", "Rejected", "Usage", "BadInput", "ReadFault", "WriteFault", "NoMemory")
 
 
+def split_words(text: str) -> list[str]:
+    """The words of a text, as a shell divides them; the path of a file is one word, also where it has blanks."""
+    return [text] if os.path.isfile(text) else shlex.split(text)
+
+
 def program_words() -> list[str]:
     """The words with which the program is called, before those of the command."""
-    if os.environ.get(VARIABLE):
-        return shlex.split(os.environ[VARIABLE])
+    named = os.environ.get(VARIABLE)
+    if named:
+        try:
+            return split_words(named)
+        except ValueError as fault:
+            raise Fault(f"{VARIABLE} is {quote(named)}, which can't be divided into words: {fault}") from fault
     for folder in (Path(__file__).resolve().parents[2], Path.cwd()):
         if (folder / "signal").is_file() and os.access(folder / "signal", os.X_OK):
             return [str(folder / "signal")]

@@ -17,7 +17,6 @@ import csv
 import itertools
 import os
 import random
-import shlex
 import sys
 import tempfile
 from collections import Counter
@@ -31,7 +30,7 @@ from .commands import Words, end
 from .faults import Fault
 from .networks import read_network
 from .orders import BACKWARD, RANDOM, READ_FIRST, history_text
-from .programs import built_program_words, run
+from .programs import built_program_words, run, split_words
 
 COMMANDS = ("turns", "actuate", BACKWARD, READ_FIRST, RANDOM)
 
@@ -100,7 +99,7 @@ def options_of() -> argparse.Namespace:
     parser.add_argument("--demands", type=float, nargs="+", default=[0.4, 0.6, 0.8, 1.0])
     parser.add_argument("--seeds", type=int, default=10)
     parser.add_argument("--series", nargs="+", default=["turns", "actuate"], metavar="NAME")
-    parser.add_argument("--program", type=shlex.split, help="its words before the command; the built program if left out")
+    parser.add_argument("--program", type=split_words, help="its words before the command; the built program if left out")
     parser.add_argument("--jobs", type=int, default=os.cpu_count())
     parser.add_argument("--part", default="0/1", metavar="K/N")
     options = parser.parse_args()

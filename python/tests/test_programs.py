@@ -7,6 +7,7 @@ from unittest import mock
 
 from kolvunh import Fault, run
 from kolvunh.answers import BestAnswer, ControllerTotals, DecidedGreen, DecidedPlan, ForecastRow, ForecastVersion, GridSummary, StoreTotals, WaitBounds
+from kolvunh.programs import program_words
 from kolvunh.queues import Most
 from kolvunh.reports import Green, Totals
 
@@ -103,6 +104,15 @@ class ProgramsTest(FilesTest):
     def test_a_verdict_that_rejects_is_an_answer(self):
         report = run(["audit", self.file("rejected total\n")])
         self.assertEqual((report.status, report.text, report.refusal, report.tables), (1, "rejected total\n", None, {}))
+
+    def test_how_the_program_is_named(self):
+        program = self.folder / "program"
+        self.assertIn(" ", str(program))
+        for named, words in ((f"'{program}' x", [str(program), "x"]), (str(program), [str(program)]), ("ssh host signal", ["ssh", "host", "signal"])):
+            with mock.patch.dict(os.environ, {"KOLVUNH_PROGRAM": named}):
+                self.assertEqual(program_words(), words)
+        with mock.patch.dict(os.environ, {"KOLVUNH_PROGRAM": "it's"}), self.assertRaisesRegex(Fault, '^KOLVUNH_PROGRAM is "it\'s", which'):
+            program_words()
 
     def test_no_program(self):
         with self.assertRaisesRegex(Fault, "the program ended with status 125: signal: no rt"):

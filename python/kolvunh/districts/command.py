@@ -12,7 +12,6 @@ openmpi-bin); without it there is one rank. Nothing here is proved.
 """
 
 import argparse
-import shlex
 import sys
 import time
 from collections.abc import Iterator
@@ -22,7 +21,7 @@ from ..arrivals import Arrival, read_arrivals, require_links
 from ..commands import Words, end
 from ..faults import Fault
 from ..networks import Network, Node, read_network
-from ..programs import built_program_words
+from ..programs import built_program_words, split_words
 from ..records import Place, quote
 from ..reports import HEADER
 from ..serving import Serving
@@ -128,7 +127,7 @@ def options_of() -> argparse.Namespace:
     parser.add_argument("--cut", type=Path, metavar="FILE")
     parser.add_argument("--greens", action="store_true")
     parser.add_argument("--times", action="store_true")
-    parser.add_argument("--program", type=shlex.split, help="its words before `serve`; the built program if left out")
+    parser.add_argument("--program", type=split_words, help="its words before `serve`; the built program if left out")
     return parser.parse_args()
 
 

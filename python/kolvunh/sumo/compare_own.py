@@ -9,7 +9,6 @@ within the least and greatest greens of the network. The seconds in which SUMO s
 exit status is 1 where there are any. Nothing here is proved.
 """
 
-import shlex
 import subprocess
 from argparse import Namespace
 from concurrent.futures import ProcessPoolExecutor
@@ -18,7 +17,7 @@ from pathlib import Path
 
 from ..commands import Words, end
 from ..faults import Fault
-from ..programs import built_program_words
+from ..programs import built_program_words, split_words
 from .compare_sumo import HEADER, row_of
 from .loop import asker, run_control, run_loop
 from .measures import Outcome, differences, last_line, outcome, run_words
@@ -59,7 +58,7 @@ def work() -> int:
         parser.add_argument(name, type=Path)
     parser.add_argument("--seeds", type=int, default=3)
     parser.add_argument("--controllers", nargs="+", choices=CONTROLLERS, default=CONTROLLERS, metavar="NAME")
-    parser.add_argument("--program", type=shlex.split, help="its words before `serve`; the built program if left out")
+    parser.add_argument("--program", type=split_words, help="its words before `serve`; the built program if left out")
     parser.add_argument("--jobs", type=int, default=1, help="runs side by side")
     options = parser.parse_args()
     if "decide" in options.controllers:

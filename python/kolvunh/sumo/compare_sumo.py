@@ -9,7 +9,6 @@ nodes). A seed draws the turns of the vehicles and SUMO's drivers; with --at-onc
 which SUMO showed something else than the greens are counted. Nothing here is proved.
 """
 
-import shlex
 import statistics
 import subprocess
 import sys
@@ -19,7 +18,7 @@ from pathlib import Path
 
 from ..commands import Words, end
 from ..faults import Fault
-from ..programs import built_program_words
+from ..programs import built_program_words, split_words
 from .layout import SUMO_HOME, read_greens, read_tables, read_places, vehicles
 from .loop import asker, early_sensors, run_control, run_loop
 from .measures import differences, last_line, outcome, run_words
@@ -115,7 +114,7 @@ def work() -> None:
     parser.add_argument("--at-once", action="store_true", help="vehicles stop and start at once")
     parser.add_argument("--early", action="store_true", help="for `decide` links end before their stop lines where nobody gives way")
     parser.add_argument("--controllers", nargs="+", choices=CONTROLLERS, default=CONTROLLERS, metavar="NAME")
-    parser.add_argument("--program", type=shlex.split, help="its words before the command; the built program if left out")
+    parser.add_argument("--program", type=split_words, help="its words before the command; the built program if left out")
     parser.add_argument("--jobs", type=int, default=2, help="runs side by side")
     options = parser.parse_args()
     options.program = options.program or built_program_words()

@@ -15,7 +15,6 @@ import contextlib
 import csv
 import io
 import re
-import shlex
 import subprocess
 import sys
 from bisect import bisect_right
@@ -28,7 +27,7 @@ from ..arrivals import Arrival, arrivals_text, read_arrivals
 from ..commands import Words, end
 from ..faults import Fault
 from ..networks import SMALL_SECONDS
-from ..programs import built_program_words
+from ..programs import built_program_words, split_words
 from ..serving import Refused, Serving
 from .layout import SPEED, SUMO_HOME, read_tables, read_places
 from .measures import differences, outcome, run_words
@@ -270,7 +269,7 @@ def work() -> int:
     parser.add_argument("--seed", type=int, default=1)
     parser.add_argument("--hours", type=float, help="how long it runs; as long as the network's rounds if left out")
     parser.add_argument("--early", action="store_true", help="links end a second before their stop lines where nobody gives way")
-    parser.add_argument("--program", type=shlex.split, help="its words before `serve`; the built program if left out")
+    parser.add_argument("--program", type=split_words, help="its words before `serve`; the built program if left out")
     options = parser.parse_args()
     folder, seed = options.folder, options.seed
     signals = convert(read_tables(options.network), read_places(options.places), folder)
