@@ -59,7 +59,7 @@ class Report:
     `status` is 0 where the work is done, 1 where a certificate or a report is rejected, else that of a refusal. `refusal` is then the
     program's line, and `explanation` has the lines on it. `text` is what was written to standard output. `tables` has what that says as
     lists of dataclasses, by name: `steps`, `plans`, `greens`, `links` and `totals` of a report; `changes` and `most` of queues; `totals`
-    of `compare`, `scale` and `spill`; what `decide`, `plan` and `grid` write. Other texts have no table. `notice` is the line with which
+    of `compare`, `scale` and `spill`; what `decide`, `plan`, `bounds` and `grid` write. Other texts have no table. `notice` is the line with which
     ./signal says that the program is not proved, None where it says nothing of it.
     """
 
@@ -111,8 +111,9 @@ def run(words: Iterable[str | os.PathLike[str]], program: Sequence[str] | None =
     A refusal raises nothing: it is in the report. That there is no program to run, or that it ended by a signal, raises a fault.
     """
     called = tuple(os.fspath(word) for word in words)
+    how: dict[str, Any] = {"encoding": "utf-8", "errors": "surrogateescape", "check": False}
     try:
-        ended = subprocess.run([*(program or program_words()), *called], capture_output=True, text=True, check=False)
+        ended = subprocess.run([*(program or program_words()), *called], capture_output=True, **how)
     except OSError as fault:
         raise Fault(f"the program can't be run: {fault}") from fault
     if ended.returncode not in range(len(STATUSES)):

@@ -21,6 +21,7 @@ turn) echo "signal: usage" >&2; exit 2 ;;
 audit) cat "$2"; exit 1 ;;
 upgrade) echo "signal: this program is not proved yet" >&2; echo "signal: bad 1 shares 2" >&2; exit 3 ;;
 check) echo "signal: no rt" >&2; exit 125 ;;
+certify) printf 'signal: bad 1 line 1\\ncaf\\351:1: ..\\n' >&2; exit 3 ;;
 esac
 cat "$2"
 """
@@ -79,7 +80,7 @@ class ProgramsTest(FilesTest):
         self.assertEqual(self.tables("decide", "kind,name,x,y,z\nplan,a,ba=0,none,\n")["plans"], [DecidedPlan("a", {"ba": 0}, None, ())])
         found = self.tables("grid", "grid 7 3 20\nplans 180\nnone 0\ndelay 24978918\ntotal 119000 35990 83010 1357203\n")
         self.assertEqual(found["summary"], [GridSummary(7, 3, 20, 180, 0, 24978918, 119000, 35990, 83010, 1357203)])
-        self.assertEqual(self.tables("certify", worked.CERTIFICATE), {})
+        self.assertEqual(self.tables("certify_bound", worked.CERTIFICATE), {})
 
     def test_bounds(self):
         found = self.tables("bounds", block("Bounds of waits"))
@@ -100,6 +101,9 @@ class ProgramsTest(FilesTest):
             report.table("totals")
         self.assertEqual(str(raised.exception), f"signal: bad 1 shares 2; {said}")
         self.assertEqual(run(["turn"]).refusal, "signal: usage")
+
+    def test_what_is_said_of_a_file_with_another_name_than_in_utf_8(self):
+        self.assertEqual(run(["certify", self.file("x")]).refusal, "signal: bad 1 line 1")
 
     def test_a_verdict_that_rejects_is_an_answer(self):
         report = run(["audit", self.file("rejected total\n")])
