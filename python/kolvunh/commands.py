@@ -3,6 +3,7 @@ can't be done."""
 
 import argparse
 import contextlib
+import io
 import os
 import sys
 from collections.abc import Callable
@@ -24,10 +25,15 @@ class Words(argparse.ArgumentParser):
 
 
 def end(work: Callable[[], int | None]) -> NoReturn:
-    """Does the work of a command and ends with the status that it gives, or with 0. A fault is a line on standard error and status 2."""
+    """Does the work of a command and ends with the status that it gives, or with 0. A fault is a line on standard error and status 2.
+
+    What is written is UTF-8 whatever the locale, as the files are; bytes of a file or a name that are none stand for themselves.
+    """
     try:
         if sys.stdout is None:
             raise Fault("there is no standard output to write to")
+        if isinstance(sys.stdout, io.TextIOWrapper):
+            sys.stdout.reconfigure(encoding="utf-8", errors="surrogateescape")
         status = work() or 0
         sys.stdout.flush()
     except (Fault, OSError) as fault:

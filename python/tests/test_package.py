@@ -4,6 +4,7 @@ import contextlib
 import importlib
 import importlib.util
 import io
+import os
 import subprocess
 import sys
 import zipfile
@@ -64,6 +65,15 @@ class PackageTest(FilesTest):
             self.assertEqual((status, out, err.count("\n")), (2, "", 1), err)
         said = self.command("measures", "net", "arr", "report", "--approach", "north=a")[2]
         self.assertIn("--approach wants --by approach or --by all", said)
+
+    def test_output_is_utf_8(self):
+        points = self.folder / "points"
+        points.write_bytes(b"series,x,y\ncaf\xe9,1,2\n")
+        for coding in ("ascii:strict", "utf-8:strict"):
+            words = [sys.executable, "-B", PACKAGE, "draw", "table", points]
+            run = subprocess.run(words, capture_output=True, check=False, env={**os.environ, "PYTHONIOENCODING": coding})
+            self.assertEqual((run.returncode, run.stderr), (0, b""))
+            self.assertEqual(run.stdout.splitlines()[-1], b"| `caf\xe9` | 2.0 \xc2\xb1 0.0 |")
 
     def test_output_that_cannot_be_written(self):
         files = [EXAMPLES / "corridor.toml", EXAMPLES / "corridor.csv"]
