@@ -10,6 +10,7 @@ from typing import NamedTuple
 from .faults import Fault
 
 Place = str | PathLike[str]
+MOST_DIGITS = 20  # of a number below 2^64
 
 
 class Record(NamedTuple):
@@ -39,7 +40,7 @@ def records_of(text: str) -> Iterator[Record]:
 
 def rows_of(place: Place, text: str, header: Sequence[str]) -> list[Record]:
     """The records of a text after its header, which has to be this one; each has as many fields as the header. Faults name the place."""
-    records = records_of(text)
+    records = _records_at(place, text)
     first = next(records, None)
     wanted = ",".join(header)
     if first is None:
@@ -53,10 +54,20 @@ def rows_of(place: Place, text: str, header: Sequence[str]) -> list[Record]:
     return rows
 
 
+def _records_at(place: Place, text: str) -> Iterator[Record]:
+    """The records of a text; a fault, which names the place, where a field has no end that Python's reader finds."""
+    try:
+        yield from records_of(text)
+    except csv.Error as fault:
+        raise Fault(f"{place}: it is no file of records: {fault}: is a quote not closed?") from fault
+
+
 def number_in(place: Place, line: int, name: str, cell: str) -> int:
     """The whole number of a cell that has this name."""
     if not (cell.isascii() and cell.isdigit()):
         raise Fault(f"{place}:{line}: {name} is {quote(cell)}, and has to be a whole number")
+    if len(cell) > MOST_DIGITS:
+        raise Fault(f"{place}:{line}: {name} has {len(cell)} digits, and may have at most {MOST_DIGITS}")
     return int(cell)
 
 

@@ -51,6 +51,9 @@ class ReportsTest(FilesTest):
         self.assertEqual(
             self.fault(head + "red,,a,0,0,5,\n"), ':2: the kind is "red", and has to be one of step, plan, green, link, total'
         )
+        digits = ":2: phase of a green has 5000 digits, and may have at most 20"
+        self.assertEqual(self.fault(head + f"green,,a,{5000 * '1'},0,5,\n"), digits)
+        self.assertIn(": it is no file of records: field larger than", self.fault(head + 'green,,"a' + 200_000 * "x"))
         self.assertEqual(self.fault(head + 2 * "total,,,1,0,1,0\n"), ": there are 2 records `total`, and has to be one")
         with self.assertRaisesRegex(Fault, "nowhere: No such file or directory"):
             read_report(self.folder / "nowhere")
