@@ -170,16 +170,22 @@ class Network:
         return [link for link in self.links if link.start == node]
 
 
-def read_network(place: Place) -> Network:
-    """The network in a file. Where a table lacks a key, or is none, the fault says what the program says of it: nothing else is tested."""
+def read_tables(place: Place) -> dict[str, Any]:
+    """The tables of a network file."""
     text = text_of(place)
     try:
         text.encode()  # what was no UTF-8 in the file is refused here
-        return network_of(tomllib.loads(text))
-    except tomllib.TOMLDecodeError as fault:
-        raise Fault(f"{place}: {fault}") from fault
+        return tomllib.loads(text)
     except UnicodeEncodeError as fault:
         raise Fault(f"{place}: the file is not in UTF-8") from fault
+    except (ValueError, RecursionError) as fault:  # also of a number that is too long, and of lists in lists without an end
+        raise Fault(f"{place}: {fault}") from fault
+
+
+def read_network(place: Place) -> Network:
+    """The network in a file. Where a table lacks a key, or is none, the fault says what the program says of it: nothing else is tested."""
+    try:
+        return network_of(read_tables(place))
     except KeyError as fault:
         raise Fault(f"{place}: a table has no key {fault}") from fault
     except (TypeError, AttributeError) as fault:

@@ -10,10 +10,11 @@ from pathlib import Path
 from unittest import mock
 
 from kolvunh.cityflow import Crossing, RoadNet, main, segments_cross
+from kolvunh.networks import read_tables
 from kolvunh.sumo.demand import Demand
 from kolvunh.sumo.drafts import Draft, write_draft
 from kolvunh.sumo.from_sumo import nodes_of
-from kolvunh.sumo.layout import read_places, read_tables
+from kolvunh.sumo.layout import read_places
 from kolvunh.sumo.streets import Streets
 from kolvunh.sumo.to_sumo import convert, write_routes
 

@@ -14,11 +14,12 @@ from types import SimpleNamespace
 from typing import Any
 from unittest import mock
 
+from kolvunh.networks import read_tables
 from kolvunh.sumo.demand import Demand
 from kolvunh.sumo.drafts import Draft, names_in, write_draft
 from kolvunh.sumo.from_sumo import main, nodes_of, survey, survey_line
 from kolvunh.sumo.groups import Node
-from kolvunh.sumo.layout import Layout, read_places, read_tables
+from kolvunh.sumo.layout import Layout, read_places
 from kolvunh.sumo.signals import Signals, state_at
 from kolvunh.sumo.streets import Movement, Streets, edge_of
 from kolvunh.sumo.to_sumo import convert, ring_seconds, vehicle_row, write_routes

@@ -135,6 +135,9 @@ class NetworksTest(FilesTest):
             read_network(self.file(worked.NETWORK.replace("sat = 500\n", "", 1)))
         with self.assertRaisesRegex(Fault, "at line 1, column 5"):
             read_network(self.file("[run\n"))
+        for text in (worked.NETWORK.replace("rounds = 4", f"rounds = {5000 * '4'}"), "a = " + 100_000 * "["):
+            with self.assertRaisesRegex(Fault, "net.toml: "):
+                read_network(self.file(text, "net.toml"))
         with self.assertRaisesRegex(Fault, "another kind"):
             read_network(self.file("run = 1\nnode = []\nlink = []\n"))
         latin = self.folder / "latin"

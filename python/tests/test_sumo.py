@@ -9,7 +9,8 @@ from collections import Counter
 from pathlib import Path
 from types import SimpleNamespace
 
-from kolvunh.sumo.layout import SUMO_HOME, Layout, read_places, read_tables, vehicles, walkers
+from kolvunh.networks import read_tables
+from kolvunh.sumo.layout import SUMO_HOME, Layout, read_places, vehicles, walkers
 from kolvunh.sumo.loop import Loop, Sensors, repeat_arrivals, run_loop, seconds_to_end
 from kolvunh.sumo.measures import differences, outcome, run_words
 from kolvunh.sumo.signals import state_at

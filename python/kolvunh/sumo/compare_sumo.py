@@ -18,8 +18,9 @@ from pathlib import Path
 
 from ..commands import Words, end
 from ..faults import Fault
+from ..networks import read_tables
 from ..programs import built_program_words, split_words
-from .layout import SUMO_HOME, read_greens, read_tables, read_places, vehicles
+from .layout import SUMO_HOME, read_greens, read_places, vehicles
 from .loop import asker, early_sensors, run_control, run_loop
 from .measures import differences, last_line, outcome, run_words
 from .pressure import MaxPressure

@@ -27,11 +27,11 @@ from pathlib import Path
 
 from ..commands import Words, end
 from ..faults import Fault
-from ..networks import MOST_SECONDS
+from ..networks import MOST_SECONDS, read_tables
 from .demand import Demand
 from .drafts import Draft, names_in, write_draft
 from .groups import Loss, Node
-from .layout import read_greens, read_tables
+from .layout import read_greens
 from .signals import state_at
 from .streets import Streets
 from .to_sumo import element, report_program

@@ -2,13 +2,11 @@
 
 import os
 import random
-import tomllib
 from collections import defaultdict
-from typing import Any
 
 from ..arrivals import read_arrivals
 from ..faults import Fault
-from ..records import Place, rows_of, text_of
+from ..records import rows_of, text_of
 from ..reports import read_report
 from .crossings import crossings_of, heading
 
@@ -202,14 +200,6 @@ def on_wheels(network, walks):
     links = [link for link in network["link"] if link["name"] not in led | set(walks)]
     conflicts = [pair for pair in network.get("conflict", []) if not set(walks) & {pair["a"], pair["b"]}]
     return network | {"link": links, "conflict": conflicts} if walks else network
-
-
-def read_tables(path: Place) -> dict[str, Any]:
-    """The tables of a network file."""
-    try:
-        return tomllib.loads(text_of(path))
-    except tomllib.TOMLDecodeError as fault:
-        raise Fault(f"{path}: {fault}") from fault
 
 
 def read_places(path):

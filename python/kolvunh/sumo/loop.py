@@ -26,10 +26,10 @@ from types import MappingProxyType
 from ..arrivals import Arrival, arrivals_text, read_arrivals
 from ..commands import Words, end
 from ..faults import Fault
-from ..networks import SMALL_SECONDS
+from ..networks import SMALL_SECONDS, read_tables
 from ..programs import built_program_words, split_words
 from ..serving import Refused, Serving
-from .layout import SPEED, SUMO_HOME, read_tables, read_places
+from .layout import SPEED, SUMO_HOME, read_places
 from .measures import differences, outcome, run_words
 from .streets import edge_of
 from .to_sumo import convert, write_routes

@@ -5,9 +5,10 @@ from pathlib import Path
 from typing import Any
 
 from ..faults import Fault
+from ..networks import read_tables
 from .drafts import names_in
 from .groups import SHORT
-from .layout import SPEED, read_tables
+from .layout import SPEED
 from .loop import SLOW, Sensors
 from .signals import state_at
 from .streets import Streets, edge_of

@@ -25,9 +25,10 @@ from xml.sax.saxutils import quoteattr
 
 from ..commands import Words, end
 from ..faults import Fault
+from ..networks import read_tables
 from .crossings import edges_at
 from .groups import WALKING
-from .layout import SPEED, Layout, read_greens, read_tables, read_places, vehicles, walkers
+from .layout import SPEED, Layout, read_greens, read_places, vehicles, walkers
 from .signals import Signals
 from .streets import Streets, edge_of, read_root
 
