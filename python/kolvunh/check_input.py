@@ -17,7 +17,7 @@ from dataclasses import dataclass
 from .arrivals import VEHICLE, Arrival, read_arrivals, require_links
 from .commands import Words, end
 from .faults import Fault
-from .networks import GREAT, MOST_SECONDS, Link, Network, Node, Phase, limits_of, read_network
+from .networks import GREAT, MOST_SECONDS, Link, Network, Node, Phase, limits_of, network_faults, read_network
 from .plans import PlanRow, read_plan
 from .records import plural, quote
 from .signs import gives_way_in
@@ -335,11 +335,9 @@ def work() -> int:
     parser.add_argument("arrivals", metavar="ARR")
     parser.add_argument("plan", metavar="PLAN", nargs="?")
     options = parser.parse_args()
-    try:
+    with network_faults(options.network):
         inputs = inputs_of(options.network, options.arrivals, options.plan)
         lines, found = load_lines(inputs), warnings(inputs)
-    except (KeyError, TypeError, ValueError, ZeroDivisionError) as fault:
-        raise Fault(f"{options.network}: this is no network that the program takes: `./signal explain upgrade {options.network}`") from fault
     print("\n".join([*lines, *(f"warning: {warning}" for warning in found)]))
     return 1 if found else 0
 

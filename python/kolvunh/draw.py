@@ -19,6 +19,7 @@ and at how many points it is above. Nothing here is proved.
 """
 
 import argparse
+import contextlib
 import itertools
 import math
 import statistics
@@ -29,7 +30,7 @@ from xml.sax.saxutils import escape
 
 from .commands import Words, end as end_command
 from .faults import Fault
-from .networks import Link, Network, read_network
+from .networks import Link, Network, network_faults, read_network
 from .queues import Queues, read_queues
 from .records import Place, quote, rows_of, text_of
 from .reports import Green, Records, read_report
@@ -420,7 +421,9 @@ def parser_of() -> Words:
 def work() -> None:
     """Writes a picture."""
     options = parser_of().parse_args()
-    print(options.draw(options))
+    with network_faults(options.network) if "network" in options else contextlib.nullcontext():
+        picture = options.draw(options)
+    print(picture)
 
 
 def main() -> None:

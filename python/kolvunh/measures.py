@@ -21,7 +21,7 @@ from .arrivals import read_arrivals, require_links
 from .commands import Words, end
 from .faults import Fault
 from .flows import Flow, flows_of_greens, flows_of_queues, parts_of, require_totals
-from .networks import Network, read_network
+from .networks import Network, network_faults, read_network
 from .queues import read_queues
 from .records import Place, quote
 from .reports import Green, Records, read_report
@@ -396,9 +396,10 @@ def answer(words: Sequence[str] | None = None) -> str:
     options = form.parse_args(words)
     if options.approach and options.by not in ("approach", "all"):
         form.error("--approach wants --by approach or --by all")
-    study = study_of(read_network(options.network), options.arrivals, options.report, options.queues)
     kinds = KINDS if options.by == "all" else (options.by,)
-    tables = [study.table(kind, options.begin, options.end, options.every, dict(options.approach)) for kind in kinds]
+    with network_faults(options.network):
+        study = study_of(read_network(options.network), options.arrivals, options.report, options.queues)
+        tables = [study.table(kind, options.begin, options.end, options.every, dict(options.approach)) for kind in kinds]
     return csv_text(row for rows in tables for row in rows) if options.csv else "\n".join(map(table_text, tables))
 
 

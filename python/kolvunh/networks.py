@@ -3,7 +3,9 @@
 Times are whole seconds. `sat` is in thousandths of a vehicle a second, and a share in thousandths of what a link brings.
 """
 
+import contextlib
 import tomllib
+from collections.abc import Iterator
 from dataclasses import dataclass
 from functools import cached_property
 from typing import Any, NamedTuple
@@ -180,6 +182,15 @@ def read_tables(place: Place) -> dict[str, Any]:
         raise Fault(f"{place}: the file is not in UTF-8") from fault
     except (ValueError, RecursionError) as fault:  # also of a number that is too long, and of lists in lists without an end
         raise Fault(f"{place}: {fault}") from fault
+
+
+@contextlib.contextmanager
+def network_faults(place: Place) -> Iterator[None]:
+    """What goes wrong with a network that was read as right, as one fault: the program does not take it, and says why."""
+    try:
+        yield
+    except (AttributeError, IndexError, KeyError, TypeError, ValueError, ZeroDivisionError) as fault:
+        raise Fault(f"{place}: this is no network that the program takes: `./signal explain upgrade {place}`") from fault
 
 
 def read_network(place: Place) -> Network:

@@ -17,7 +17,7 @@ from typing import Any
 from .commands import Words, end
 from .faults import Fault
 from .measures import Study, study_of
-from .networks import Network, read_network
+from .networks import Network, network_faults, read_network
 from .places import Places, places_of, streets_of
 from .records import plural, quote
 
@@ -119,8 +119,9 @@ def answer(words: Sequence[str] | None = None) -> str:
     strange = set(given) ^ {node.name for node in network.nodes} if given else set()
     if strange:
         raise Fault(f"{options.network}: places are to be given for all nodes of the network and for no other: {quote(min(strange))}")
-    data = network_data(network, places_of(network, given))
-    data["reports"] = [report_data(name, study_of(network, options.arrivals, file)) for name, file in options.reports]
+    with network_faults(options.network):
+        data = network_data(network, places_of(network, given))
+        data["reports"] = [report_data(name, study_of(network, options.arrivals, file)) for name, file in options.reports]
     data["title"] = options.title or Path(options.network).stem
     data["about"] = (
         f"{Path(options.network).name} with {Path(options.arrivals).name}: {plural(len(network.nodes), 'junction')}, "

@@ -12,7 +12,7 @@ from tempfile import TemporaryDirectory
 
 from .commands import Words, end
 from .measures import VEHICLE, Measures, Study, quotient, study_of
-from .networks import Network, read_network
+from .networks import Network, network_faults, read_network
 from .programs import run
 from .records import plural
 
@@ -91,9 +91,10 @@ def answer(words: Sequence[str] | None = None) -> str:
         report = Path(options.report or Path(folder) / "report.csv")
         if not options.report:
             run_report(options.network, options.arrivals, report)
-        network = read_network(options.network)
-        study = study_of(network, options.arrivals, report)
-    return "".join(f"{name:12}{line}\n" for name, line in lines_of(network, study))
+        with network_faults(options.network):
+            network = read_network(options.network)
+            lines = lines_of(network, study_of(network, options.arrivals, report))
+    return "".join(f"{name:12}{line}\n" for name, line in lines)
 
 
 def main() -> None:

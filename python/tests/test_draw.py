@@ -85,10 +85,12 @@ class DrawTest(FilesTest):
     def test_faults_in_one_line(self):
         net, report = EXAMPLES / "corridor.toml", self.file(REPORT, "report")
         other = self.file(REPORT.replace("first", "sixth"), "other")
+        odd = self.file(net.read_text(encoding="utf-8").replace('links = ["side_first"]', 'links = ["xx"]'), "odd")
         for words, said in (
             (("greens", net, self.folder / "none"), "none: No such file or directory"),
             (("greens", net, other), "which the network has not: is it of another network?"),
             (("greens", report, report), "report: Expected '=' after a key in a key/value pair (at line 1, column 5)"),
+            (("greens", odd, report), "odd: this is no network that the program takes"),
             (("greens", net, report, "--from", "120"), "from second 120 to 120 there is nothing to draw: the run goes from 0 to 120"),
             (("street", net, report, "first=0", "sixth=9"), '"sixth=9": the network has no node "sixth"'),
             (("street", net, report, "first=0", "second"), 'is no number of metres; the form is NODE=METRES'),

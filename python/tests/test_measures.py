@@ -5,7 +5,7 @@ import importlib.util
 import io
 import unittest
 
-from kolvunh import Fault, measures
+from kolvunh import Fault, measures, page, summary
 from kolvunh.flows import Passage, flows_of_greens, flows_of_queues
 from kolvunh.frames import frame_of
 from kolvunh.networks import read_network
@@ -129,6 +129,10 @@ class MeasuresTest(FilesTest):
         self.assertEqual([row[:19] for row in rows[1:]][::4], ["approach,east,0,10,", "approach,east,10,20"])
         with self.assertRaisesRegex(Fault, "other arrivals"):
             measures.answer([*files[:2], str(self.file(REPORT, "other")), *queues])
+        odd = str(self.file(NETWORK.replace('links = ["sb"]', 'links = ["xx"]'), "odd"))
+        for answer in (measures.answer, page.answer, summary.answer):
+            with self.assertRaisesRegex(Fault, "odd: this is no network that the program takes"):
+                answer([odd, *files[1:]])
         with self.assertRaisesRegex(Fault, '"east": its links'):
             measures.answer([*files, "--by", "approach", "--approach", "east=sa,no"])
 

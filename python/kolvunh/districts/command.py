@@ -20,7 +20,7 @@ from pathlib import Path
 from ..arrivals import Arrival, read_arrivals, require_links
 from ..commands import Words, end
 from ..faults import Fault
-from ..networks import Network, Node, read_network
+from ..networks import Network, Node, network_faults, read_network
 from ..programs import built_program_words, split_words
 from ..records import Place, quote
 from ..reports import HEADER
@@ -103,8 +103,9 @@ def run_district(options: argparse.Namespace, decider: Decider, ranks: Ranks) ->
     """Runs the district of a rank; the answer is the report at rank 0, and nothing elsewhere."""
     network = district = fault = None
     try:
-        network = read_network(options.network)
-        district = district_of(options, network, ranks)
+        with network_faults(options.network):
+            network = read_network(options.network)
+            district = district_of(options, network, ranks)
     except Fault as found:
         fault = str(found)
     faults = [found for found in ranks.share(fault) if found is not None]
