@@ -110,7 +110,7 @@ class Chart:
 def ticks(most: float, least: float = 0) -> list[float]:
     """Round values between the bounds, at most eleven."""
     span = most - least
-    step = next(size * 10**power for power in range(-6, 12) for size in (1, 2, 5) if span / (size * 10**power) <= 10)
+    step = next(size * 10**power for power in range(-6, 308) for size in (1, 2, 5) if span / (size * 10**power) <= 10)
     values = (number * step for number in range(math.ceil(least / step - 1e-9), int(most / step + 1e-9) + 1))
     return [int(value) if value == int(value) else round(value, 6) for value in values]
 
@@ -326,6 +326,8 @@ def points_of(place: Place) -> dict[str, dict[float, list[float]]]:
     for row in rows_of(place, text_of(place), ("series", "x", "y")):
         try:
             x, y = map(float, row.fields[1:])
+            if not (math.isfinite(x) and math.isfinite(y)):
+                raise ValueError("no end")
         except ValueError as fault:
             raise Fault(f"{place}:{row.line}: x and y have to be numbers, and are {quote(','.join(row.fields[1:]))}") from fault
         points[row.fields[0]][x].append(y)

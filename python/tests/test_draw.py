@@ -80,6 +80,7 @@ class DrawTest(FilesTest):
     def test_ticks(self):
         self.assertEqual(draw.ticks(4.5), [0, 0.5, 1, 1.5, 2, 2.5, 3, 3.5, 4, 4.5])
         self.assertEqual(draw.ticks(120)[-1], 120)
+        self.assertEqual(draw.ticks(1e14)[-1], 10**14)
         self.assertEqual(draw.ticks(480, 305), [320, 340, 360, 380, 400, 420, 440, 460, 480])
 
     def test_faults_in_one_line(self):
@@ -97,6 +98,7 @@ class DrawTest(FilesTest):
             (("queues", self.file(QUEUES, "queues"), "xx"), 'queues: there is no link "xx"'),
             (("queues", self.file("second,link\n", "short")), 'short:1: the header is "second,link", and has to be second,link,queue,on'),
             (("points", self.file("series,x,y\na,1,b\n", "points")), 'points:2: x and y have to be numbers, and are "1,b"'),
+            (("points", self.file("series,x,y\na,1,nan\n", "nan")), 'nan:2: x and y have to be numbers, and are "1,nan"'),
         ):
             err = io.StringIO()
             with mock.patch.object(sys, "argv", ["draw", *map(str, words)]), contextlib.redirect_stderr(err):
