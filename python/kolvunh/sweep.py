@@ -32,6 +32,7 @@ from .networks import read_network
 from .orders import BACKWARD, RANDOM, READ_FIRST, history_text
 from .programs import built_program_words, run, split_words
 
+MOST_DEMAND = 1000  # times the vehicles that a file brings
 COMMANDS = ("turns", "actuate", BACKWARD, READ_FIRST, RANDOM)
 
 
@@ -103,8 +104,8 @@ def options_of() -> argparse.Namespace:
     parser.add_argument("--jobs", type=int, default=os.cpu_count())
     parser.add_argument("--part", default="0/1", metavar="K/N")
     options = parser.parse_args()
-    if options.jobs < 1 or options.seeds < 1 or min(options.demands) < 0:
-        parser.error("--jobs and --seeds are above 0, and no demand is below it")
+    if options.jobs < 1 or options.seeds < 1 or not all(0 <= demand <= MOST_DEMAND for demand in options.demands):
+        parser.error(f"--jobs and --seeds are above 0, and demands from 0 to {MOST_DEMAND}")
     for series in options.series:
         if series.partition(":")[0] not in COMMANDS or not all(keys_of(series)):
             parser.error(f"{series} is no series: it begins with one of {', '.join(COMMANDS)}, and a key=value may follow after a colon")
