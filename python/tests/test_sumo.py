@@ -8,7 +8,9 @@ import unittest
 from collections import Counter
 from pathlib import Path
 from types import SimpleNamespace
+from unittest import mock
 
+from kolvunh.faults import Fault
 from kolvunh.networks import read_tables
 from kolvunh.sumo.layout import SUMO_HOME, Layout, read_places, vehicles, walkers
 from kolvunh.sumo.loop import Loop, Sensors, repeat_arrivals, run_loop, seconds_to_end
@@ -167,6 +169,10 @@ class LayoutTest(unittest.TestCase):
         self.assertEqual(lines["first"][:2], [(0, 17_970, 17_998), (1, 18_003, 18_013)])
         # what is answered is told from the moved second 0 on
         self.assertEqual(loop.told, [("version", "first_second", 1441, "", ""), ("row", "first_second", 7240, "500", "")])
+
+    def test_without_the_tools_of_sumo(self):
+        with mock.patch.dict("sys.modules", {"traci": None}), self.assertRaisesRegex(Fault, "^SUMO's tools are not in .*/tools: "):
+            run_loop(type("Stub", (), {"layout": Layout(CORRIDOR)}), ring_answer, [])
 
     def test_arrivals_come_again(self):
         with tempfile.TemporaryDirectory() as folder:

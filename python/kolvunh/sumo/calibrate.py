@@ -20,6 +20,7 @@ from typing import Any
 
 from ..commands import Words, end
 from ..records import text_of
+from .loop import traci_of_sumo
 from .measures import run_words
 from .own import OwnSensors, OwnSignals
 from .to_sumo import element
@@ -124,8 +125,7 @@ class Count:
 
 def measured(signals: OwnSignals, words: list[str], count: Count) -> None:
     """Runs SUMO by its words, and counts."""
-    import traci
-
+    traci = traci_of_sumo()
     traci.start(words, stdout=subprocess.DEVNULL)
     try:
         eyes = OwnSensors(traci, signals)

@@ -234,6 +234,15 @@ def repeat_arrivals(path, period, seconds, to):
     to.write_text(arrivals_text(again))
 
 
+def traci_of_sumo():
+    """The module by which SUMO is asked; a fault where SUMO's tools are not installed."""
+    try:
+        import traci
+    except ImportError as fault:
+        raise Fault(f"SUMO's tools are not in {SUMO_HOME}/tools: {fault}") from fault
+    return traci
+
+
 def run_loop(signals, ask, words, sensors=Sensors):
     """Runs SUMO by its words with the program in the loop, and answers the lines of greens of all nodes."""
     return run_control(signals, Loop(signals, ask), words, sensors)
@@ -241,8 +250,7 @@ def run_loop(signals, ask, words, sensors=Sensors):
 
 def run_control(signals, controller, words, sensors=Sensors):
     """Runs SUMO by its words under a controller, which acts each second on what the sensors see; answers its lines of greens."""
-    import traci
-
+    traci = traci_of_sumo()
     with contextlib.redirect_stdout(sys.stderr):
         traci.start(words, stdout=subprocess.DEVNULL)
     try:
