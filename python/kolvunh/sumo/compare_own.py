@@ -61,6 +61,8 @@ def work() -> int:
     parser.add_argument("--program", type=split_words, help="its words before `serve`; the built program if left out")
     parser.add_argument("--jobs", type=int, default=1, help="runs side by side")
     options = parser.parse_args()
+    if options.seeds < 1 or options.jobs < 1:
+        parser.error("--seeds and --jobs are above 0")
     if "decide" in options.controllers:
         options.program = options.program or built_program_words()
     tasks = [(name, seed) for name in options.controllers for seed in range(1, options.seeds + 1)]

@@ -118,6 +118,8 @@ def work() -> None:
     parser.add_argument("--program", type=split_words, help="its words before the command; the built program if left out")
     parser.add_argument("--jobs", type=int, default=2, help="runs side by side")
     options = parser.parse_args()
+    if options.seeds < 1 or options.jobs < 1:
+        parser.error("--seeds and --jobs are above 0")
     options.program = options.program or built_program_words()
     signals = convert(read_tables(options.network), read_places(options.places), options.folder)
     seeds = range(1, options.seeds + 1)
