@@ -19,11 +19,9 @@ def block(section: str, number: int = 1) -> str:
 
 NETWORK = block("A worked network")
 ARRIVALS = block("Arrivals file")
-STORE = block("Store file")
 PLAN = block("Fixed plan")
 REPORT = block("Report")
 QUEUES = block("Queues")
-STATE = block("State of a round")
 CERTIFICATE = block("Certificate text")
 
 

@@ -12,8 +12,7 @@ TIMES = ("least", "greatest", "yellow", "clear", "loss", "wait")
 BOUNDS = {"least": (1, 120), "greatest": (1, 240), "yellow": (1, 10), "clear": (0, 10), "loss": (0, 10), "wait": (1, 3600)}
 MOST_SIZE, MOST_WEIGHT, MOST_SECOND, MOST_LENGTH = 20_000_000, 20, 100_000, 240
 MOST_CLUSTERS, MOST_ORDERS = 40, 50_000
-MOST_AT, MOST_DELAY = 104_000, 57_600_000_000_000
-BITS = {8: 2**8 - 1, 32: 2**32 - 1, 64: 2**64 - 1}
+MOST_AT, MOST_DELAY, MOST_NUMBER = 104_000, 57_600_000_000_000, 2**32 - 1
 
 
 class InstanceFile:
@@ -289,7 +288,7 @@ def why_not(found: str, wanted: str) -> str:
             return f": {field} has a zero in front"
         if re.fullmatch(r"[-+]?[0-9]*[.,]?[0-9]+", field) and not field.isdigit():
             return f": {field} is no whole number from 0 on"
-        if field.isdigit() and int(field) > BITS[32] and fields[0] not in ("answer", "entry"):
+        if field.isdigit() and int(field) > MOST_NUMBER and fields[0] not in ("answer", "entry"):
             return f": {thousands(int(field))} is too great"
     form = next((form.split(" ") for form in re.findall(r"`([^`]*)`", wanted) if form.split(" ")[0] == fields[0]), None)
     if form and len(form) != len(fields) and fields[0] != "answer":

@@ -3,12 +3,13 @@
 from collections import Counter
 from collections.abc import Callable
 
+from ..arrivals import MOST_AMOUNT, MOST_SUM
 from ..records import Record, plural, quote, records_of, text_of
 from .networks import BEGINS, HEADERS, NetworkFile, link_counts
 from .wording import at, enumeration, meant, ordinal, thousands
 
 KINDS = ("step", "plan", "green", "link", "total")
-MOST_SUM, MOST_STORAGE, MOST_AMOUNT, MOST_OFFSET = 2_000_000_000, 2_000_000_000, 1_000_000, 17_999
+MOST_STORAGE, MOST_OFFSET = 2_000_000_000, 17_999
 BITS = {8: 2**8 - 1, 32: 2**32 - 1, 64: 2**64 - 1}
 HEADER_OF = {
     "arrivals": "second,link,amount",
