@@ -163,6 +163,8 @@ class RoadNet:
         return found
 
     def _require(self, path: Place, route: Sequence[str]) -> None:
+        if not route:
+            raise Fault(f"{path}: a flow has no road in its route")
         strange = next((road for road in route if road not in self.edges), None)
         if strange is not None:
             raise Fault(f"{path}: a route names road {quote(strange)}, which the roadnet has not")

@@ -103,6 +103,7 @@ class CityFlowTest(FilesTest):
             (HERE / "roadnet.json", self.file("[]", "e.json"), "there is no vehicle in it"),
             (HERE / "roadnet.json", self.file(json.dumps(strange), "f.json"), 'a route names road "road_9_9_0"'),
             (HERE / "roadnet.json", self.file(json.dumps(gap), "g.json"), "no way leads there"),
+            (HERE / "roadnet.json", self.file(json.dumps([{**flows[0], "route": []}]), "h.json"), "a flow has no road in its route"),
         ):
             status, err = self.command(roadnet, flow, out)
             self.assertEqual((status, err.count("\n")), (2, 1), err)
