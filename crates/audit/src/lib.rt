@@ -40,7 +40,8 @@ use std::alloc::{AllocError, Global};
 
 /// Whether a sheet is clean: each of its lines is lawful for the plan of its node, and its totals are those that the
 /// world shows under these lines and the arrivals, from second 0 up to the end of the last round. Else the first reason
-/// why it is not. Rows that begin after that end count for lawfulness, and not for the totals.
+/// why it is not. Of the rows that begin at that end or later all count for lawfulness, and for the totals the first of each node alone,
+/// by its phase.
 ///
 /// Under the greens of a clean sheet the network is safe. Of a sheet with the shape of the network, each of whose lines
 /// has fewer than 4,294,967,296 rows, nothing else is asked.

@@ -30,8 +30,8 @@ pub enum Why {
     Delay { said: u64, is: u64 },
     /// No entry has the key of the start with no delay.
     NoRoot,
-    /// The first entry after which something can be served next that is no entry and not too dear, and the least
-    /// phase of which it can.
+    /// The first entry after which something can be served next that has the key of no entry with as little delay, and is not
+    /// too dear, and the least phase of which it can.
     Open { entry: u32, phase: u8 },
     /// The first entry after which nothing is left, and which undercuts the answer.
     Cheaper { entry: u32 },

@@ -32,8 +32,8 @@ pub(crate) fn first_open<L: Ledger>(c: &Certificate, steps: &mut Steps<L>) -> Op
     None
 }
 
-/// The least phase of which the next cluster can be served after an entry, and leads to no entry and not to what is
-/// too dear.
+/// The least phase of which the next cluster can be served after an entry, and leads to the key of no entry with as little delay and
+/// not to what is too dear.
 fn open_phase<L: Ledger>(
     c: &Certificate,
     entry: &Entry,

@@ -17,8 +17,8 @@ const NO_MEMORY: &[u8] = b"refused,signal: no memory\nend\n";
 /// The answer to lines that no request ends.
 const UNENDED: &[u8] = b"refused,signal: cannot read 2\nend\n";
 
-/// Reads the network in the file once, and answers each request of the source in its order: as `decide` does, with a line `end`
-/// after it, or with one line that says why it is refused, and goes on. Each answer is written before the next request is read. It
+/// Reads the network in the file once, and answers each request of the source in its order: as `decide` does, or with one line that
+/// says why it is refused, and a line `end` after either; then it goes on. Each answer is written before the next request is read. It
 /// ends with the source, or where that or a write fails.
 ///
 /// Each status has its cause, and each refusal writes its line to `err`, as `signal` says.

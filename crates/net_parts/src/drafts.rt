@@ -27,8 +27,8 @@ pub struct Run {
     /// How many times the load counts of what the standing green can serve at once, 1 to 20; none where the file does
     /// not say it, which is once.
     pub hold: Option<u32>,
-    /// The seconds for which a queue has stood from which on its phase is planned as one without a mark, 1 to 3600; none where
-    /// the file does not say it (docs/RULES.md, "Recall").
+    /// The seconds for which a queue has stood from which on its phase, and in a free ring each, is planned as one without a mark,
+    /// 1 to 3600; none where the file does not say it (docs/RULES.md, "Recall").
     pub recall: Option<u32>,
     /// The seconds after which actuated control looks again, 1 to 30 and a divisor of `step`; none where the file does not
     /// say it, which is `step` (docs/RULES.md, "Actuated control").
@@ -126,7 +126,7 @@ pub struct DraftTurn {
     pub share: u32,
 }
 
-/// Two links that must never be green together: they differ, end at one node and are in two phases of it
+/// Two links that must never be green together: they differ, end at one node and have no green in common
 /// (docs/RULES.md, "Conflicts").
 #[derive(Drop)]
 pub struct DraftConflict {

@@ -27,8 +27,8 @@ pub struct Phase {
     pub loss: u32,
     /// The longest time that a cluster of the phase may wait, 1 to 3600.
     pub wait: u32,
-    /// The mark of a phase that the ring leaves out: it is green only where one of its clusters is served, where it is the
-    /// head's, or, under actuated control, where it is called. A ring with all phases marked is free: any may follow any other.
+    /// The mark of a phase that the ring leaves out, but where docs/RULES.md, "Phases", says otherwise. A ring with all phases marked
+    /// is free: any may follow any other.
     pub skip: bool,
 }
 

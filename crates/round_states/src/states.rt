@@ -28,7 +28,7 @@ pub struct RoundState {
     pub round: u32,
     /// What each node senses in the first second of the round, by node.
     pub sensed: Items<Sensed>,
-    /// The timeline of each node, by node. A row of it ends after the first second of the round.
+    /// The timeline of each node, by node. A row of it ends after the first second of the round, where the node is to have its turn.
     pub lines: Items<Timeline>,
     /// The board of each link, by link.
     pub boards: Items<LinkBoard>,

@@ -17,7 +17,7 @@ pub struct PlanTally {
     pub plans: u64,
     /// How many of them are none.
     pub none: u64,
-    /// The delays of the others together, in thousandths of a vehicle second.
+    /// The delays of the others together, in thousandths of a vehicle times weight times seconds.
     pub delay: u128,
 }
 

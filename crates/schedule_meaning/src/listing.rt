@@ -42,7 +42,7 @@ pub fn servings(alloc: Global, i: &Instance, seq: &[u8]) -> Result<Vec<Served>, 
     servings_in_ledger::<Brand>(alloc, i, seq, Blank::new(1))
 }
 
-/// What a sequence serves, its steps servings_in_ledger in the ledger of this blank.
+/// What a sequence serves, its steps counted in the ledger of this blank.
 fn servings_in_ledger<L: Ledger>(
     alloc: Global,
     i: &Instance,

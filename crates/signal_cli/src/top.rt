@@ -27,7 +27,7 @@ use std::thread::Threads;
 ///
 /// The arguments are those of a command; all others are `Usage`, which touches neither shelf nor `out`. Each status of a
 /// command comes with its cause, nothing is written to `out` before all work is done, and a refusal writes its line to
-/// `err`. `net` alone starts threads and waits, and calls the gate.
+/// `err`. `net` alone waits and calls the gate; it and `certify_par` use threads.
 ///
 /// docs/FORMATS.md, "Words".
 pub fn signal<R: Threads + Wait + Sync, S: Shelf, O: Sink, E: Sink, G: Gate + Sync>(

@@ -8,7 +8,7 @@ ghost use Rattle.road_net.specs.Network.{IsNetwork};
 ghost use Rattle.signal_safety.specs.{Rows.AreRowsApart, Safe.IsSafe};
 
 /// Lawful timelines, one for each node of a network, make the network safe: no two links in conflict are ever green together, and
-/// each is green only after the yellow and all-red of every earlier green of the other.
+/// each is green only after the yellow and all-red of every earlier green of the other, and after who entered a walk then is over.
 ///
 /// docs/RULES.md, "Run".
 pub fn law_of_safety()

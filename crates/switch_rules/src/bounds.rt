@@ -2,7 +2,7 @@
 
 /// The latest second by which the time of a head may be spent from which clusters are served.
 ///
-/// docs/RULES.md, "Serving".
+/// docs/RULES.md, "Certificate".
 pub const LATEST_TIME: u32 = 104_000;
 
 /// The latest second at which a cluster arrives, and at which the green of an instance's head begins.
@@ -33,5 +33,5 @@ pub const MOST_ORDERS: u32 = 50_000;
 /// The greatest weighted delay of an instance's servings together, in thousandths of a vehicle times weight times
 /// seconds.
 ///
-/// docs/RULES.md, "Sequence, feasibility, delay".
+/// docs/RULES.md, "Instance".
 pub const GREATEST_DELAY: u64 = 57_600_000_000_000;

@@ -24,7 +24,8 @@ use std::sync::ledger::Ledger;
 pub struct Cluster {
     /// Thousandths of a vehicle, 1 to 20,000,000.
     pub size: u32,
-    /// What a second of its wait costs: each part of its size by the weight of its link, `size` to 20 times `size`.
+    /// What a second of its wait costs, `size` to 20 times `size`: where nothing counts more, each part of its size by the weight of its
+    /// link.
     pub load: u32,
     /// The second at which the first of them arrives, 0 to 100,000.
     pub arr: u32,
