@@ -13,7 +13,7 @@ use Rattle.net_parts.specs.Outline.{phase_links_at, plan_at}
 use Rattle.net_simulator.specs.Senses.{near_of}
 use Rattle.road_net.specs.declared.senses.Sensed.{Sensed}
 
--- what waits at the end of a link, or reaches it now or within so many seconds after
+-- what waits at the end of a link, or reaches it now or within `gap` seconds after
 abbrev pub amount_near : Sensed → ℕ → ℕ → ℕ
 amount_near sensed gap link = near_of (sense_of sensed link) gap
 

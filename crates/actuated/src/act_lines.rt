@@ -54,7 +54,7 @@ fn held_until(plan: &PhasePlan, head: &Head, calls: &[u32]) -> u32
     ensures earliest { earliest_end plan.now head.now ≤ result }
     ensures latest { result ≤ head.now.since + (phase_at plan.now head.now.phase).greatest }
 {
-    // Called for its clause `plan`.
+    // Called for its clause `ring`.
     let _ = plan.count();
     if is_held(calls, head.phase) {
         head.since + plan.phase(head.phase).greatest

@@ -20,7 +20,7 @@ pub fn law_of_actuated_lines()
 {}
 
 /// Under actuated control no queue of a link without a walk waits for ever: each loses something within the bound of its phase, where
-/// it has one and the run goes on as long, and what stands at a second leaves green by green.
+/// it has one and the run goes on as long, and what stands at a second, of an unmarked phase, leaves green by green.
 ///
 /// docs/RULES.md, "How long a queue can wait".
 pub fn law_of_actuated_waits()

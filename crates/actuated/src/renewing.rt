@@ -21,7 +21,7 @@ fn first_line(alloc: Global, net: &Network, node: u32) -> Result<Timeline, Alloc
     ensures ready { IfOk result (IsReady (plan_at net.now node) 0) }
 {
     let plan = net.plan(node);
-    // Called for its clause `plan`.
+    // Called for its clause `ring`.
     let _ = plan.count();
     let first = Head {
         phase: 0,

@@ -13,6 +13,6 @@ pub record ShowsFirst (intergreen : ℕ → ℕ) (until : ℕ) (rows : List Gree
   pub begins : (row_at rows 0).from ≡ 0
   pub ends : until < end_of rows
 
--- the line of each node does
+-- the line of each node shows the first `until` seconds with intergreens within those of its node
 abbrev pub AllShowFirst : Net → (ℕ → ℕ → ℕ) → ℕ → List (List Green) → Type 0
 AllShowFirst net intergreens until lines = (node : ℕ) → node < length net.node_names → ShowsFirst (intergreens node) until (line_in lines node)

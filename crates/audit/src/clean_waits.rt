@@ -7,8 +7,8 @@ ghost use Rattle.waits.specs.Discharges.{AreEmptied, AreWaitsWithin, wait_bounds
 use road_net::{Network, law_of_network};
 
 /// Under the greens of a clean sheet, whoever wrote it, no queue of a link without a walk waits for ever while its lines go on with
-/// intergreens within bounds: each loses something within the bound of its phase, where it has one, and what stands at a second leaves
-/// green by green.
+/// intergreens within bounds: each loses something within the bound of its phase, where it has one, and what stands at a second, of an
+/// unmarked phase, leaves green by green.
 ///
 /// docs/RULES.md, "How long a queue can wait".
 pub fn law_of_clean_waits(net: &Network)

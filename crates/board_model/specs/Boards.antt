@@ -11,7 +11,7 @@ use Rattle.board_model.specs.declared.boards.BoardKind.TheVariants.{Read, Publis
 abbrev pub most_versions : ℕ
 most_versions = 4000000000
 
--- the events of a log, and for how many further ones memory is set aside
+-- the events of a log, and for how many further ones memory is reserved
 pub record Log : Type 0 where
   pub events : List BoardEvent
   pub spare : ℕ

@@ -1,4 +1,4 @@
--- What a log keeps beside its events. No public clause names these words.
+-- What a log keeps beside its events. No public clause names these definitions.
 use Rattle.std.specs.Prelude.{◌≡◌, ℕ, ◌≤◌, List, [], slice_get, slice_index_or}
 use Rattle.std.specs.Option.{option_map_or}
 use Rattle.board_model.specs.declared.forecasts.Row.{Row}

@@ -76,7 +76,7 @@ pub struct BoardEvent {
 impl CrossesThreads for BoardEvent {}
 
 /// The log of one link's board: legal, and with at most 4,000,000,000 versions published. Contracts see the list of its
-/// events, and for how many further events memory is set aside.
+/// events, and for how many further events memory is reserved.
 ///
 /// docs/RULES.md, "Board".
 #[derive(Drop)]
@@ -156,8 +156,7 @@ impl BoardLog {
         }
     }
 
-    /// Sets memory aside for at least one event, where none is yet. `Err`: out of
-    /// memory; all stays as it was.
+    /// Reserves memory for at least one event, where none is reserved yet. `Err`: out of memory; all stays as it was.
     ///
     /// docs/RULES.md, "Board".
     pub fn reserve(&mut self) -> Result<(), AllocError>
@@ -171,7 +170,7 @@ impl BoardLog {
     }
 
     /// Adds the event of a reading, and answers the version that is read. The stamp is above the last one, and memory
-    /// is set aside. It takes none.
+    /// is reserved. It takes none.
     ///
     /// docs/RULES.md, "Board".
     pub fn note_read(&mut self, stamp: u64, node: u32) -> u32
@@ -190,7 +189,7 @@ impl BoardLog {
     }
 
     /// Adds the event of a publishing, and answers the version that the forecast becomes. The stamp is above the last
-    /// one, fewer than 4,000,000,000 versions were published, and memory is set aside. It takes none.
+    /// one, fewer than 4,000,000,000 versions were published, and memory is reserved. It takes none.
     ///
     /// docs/RULES.md, "Board".
     pub fn note_publish(&mut self, stamp: u64, node: u32, f: Forecast) -> u32

@@ -6,12 +6,12 @@ use std::thread::Threads;
 /// What the caller runs before each board step and inside it, to watch or to hold the threads. No answer depends on it,
 /// and the two do what they like: they may wait, and a step goes on once they return.
 ///
-/// docs/RULES.md, "Board".
+/// docs/DESIGN.md, "Shared boards".
 pub trait Gate {
     /// It runs before the board step of the node in the round: a publishing of the link, or else a reading of it. Nodes,
     /// rounds and links count from 0.
     ///
-    /// docs/RULES.md, "Board".
+    /// docs/DESIGN.md, "Shared boards".
     fn before<R: Threads + Wait + Sync>(
         &self,
         rt: &R,
@@ -23,13 +23,13 @@ pub trait Gate {
 
     /// It runs once inside the node's call, while the call holds the link's turn.
     ///
-    /// docs/RULES.md, "Board".
+    /// docs/DESIGN.md, "Shared boards".
     fn inside<R: Threads + Wait + Sync>(&self, rt: &R, node: u32, link: u32, publish: bool);
 }
 
 /// The gate that does nothing.
 ///
-/// docs/RULES.md, "Board".
+/// docs/DESIGN.md, "Shared boards".
 #[derive(Debug, Clone, Copy, PartialEq, Eq)]
 pub struct OpenGate;
 

@@ -20,8 +20,8 @@ IsAtRow fields = parse fields ≡ None
 abbrev pub IsAtNode : Net → List (List ℕ) → Type 0
 IsAtNode net fields = IsSomeAnd (parse fields) (λ t. number_of net.node_names t.name ≡ None)
 
--- after these rows, one that does not come next; one that does, with a green out of its bounds; and one with such a green, and
--- another offset than it may have
+-- after these rows, one that does not come next; one that does, with a green out of its bounds; and one that does, with a green within
+-- them, and another offset than it may have
 abbrev pub IsAtPhase : Net → List FixedRow → FixedRow → Type 0
 IsAtPhase net before r = ¬ ComesNext net (last_of None before) r
 

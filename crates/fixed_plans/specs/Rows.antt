@@ -49,7 +49,7 @@ pub record HasGreen (plan : List Phase) (r : FixedRow) : Type 0 where
   pub least : (phase_at plan r.phase).least ≤ r.green
   pub greatest : r.green ≤ (phase_at plan r.phase).greatest
 
--- the offset of a row is that of the row before it of the same node
+-- the offset of a row is at most 17,999, and that of the row before it of the same node
 abbrev pub HasOffset : Option Before → FixedRow → Type 0
 HasOffset None r = r.offset ≤ greatest_offset
 HasOffset (Some b) r = (r.offset ≤ greatest_offset) × (r.node ≡ b.row.node → r.offset ≡ b.row.offset)

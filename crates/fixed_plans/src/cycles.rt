@@ -143,7 +143,7 @@ fn span(plan: &PhasePlan, row: &FixedRow) -> u32
     row.green + times.yellow + times.clear
 }
 
-/// The place after this one in a cycle of so many rows.
+/// The place after this one in a cycle of `count` rows.
 fn next_index(index: usize, count: usize) -> usize
     requires { index < count }
     ensures { result ≡ if nat_lt (index + 1) count then index + 1 else 0 }

@@ -16,7 +16,7 @@ pub enum FixedFault {
     /// The row is one of no node.
     Node(u32),
     /// The row is not the next one up the ring of the node of the row before it, nor, where that one has all its rows,
-    /// at least two, the first of the next node.
+    /// at least two, the first of the next node; or it is the first row, and not the first of node 0.
     Phase(u32),
     /// The green is shorter than the least or longer than the greatest green of its phase.
     Green(u32),

@@ -38,7 +38,7 @@ pub record IsDealer (made : ℕ) (v : View) : Type 0 where
   pub flight : v.flight ≡ None
   pub entries : v.entries ≡ entry 0 [] ∷ []
 
--- a seat between two calls, with no number and no calls left
+-- a seat between two calls, with no calls left
 pub record IsCourier {S : Type 0} (me : Me S View) : Type 0 where
   pub empty : me.1 ≡ []
   pub landed : me.0.flight ≡ None

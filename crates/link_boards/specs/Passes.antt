@@ -47,6 +47,7 @@ fresh_passes id calls = map (fresh_at id calls) (range_with_len 0 (length calls)
 abbrev pub after_call : PassView → Call → PassView
 after_call p call = record { boards = p.boards; number = p.number; left = p.left - 1; known = call.stamp + 1; calls = p.calls ++ call ∷ [] }
 
+-- the call of a reading that answered this, and of a publishing of this forecast that did
 abbrev pub call_of_read : ℕ → Seen → Call
 call_of_read link seen = record { link = link; stamp = seen.stamp; publishes = false; version = seen.version; forecast = seen.forecast }
 

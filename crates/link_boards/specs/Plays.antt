@@ -18,8 +18,8 @@ Hand S = Me S View
 abbrev pub IsPast : List BoardEvent → Call → Type 0
 IsPast events call = (call.version ≤ version_of events) × (call.forecast ≡ forecast_of events call.version)
 
--- what holds after a draw: the call had not drawn yet; the stamp is above all that the pass knew and above all stamps of the
--- log; and the log has the versions and forecasts of the pass's own earlier calls at the link
+-- what holds after a draw: the call had not drawn yet; the stamp is above all that the pass knew, and above all stamps of the log; the
+-- log has fewer versions than it may have; and it has the versions and forecasts of the pass's own earlier calls at the link
 pub record HasDrawn (v : View) (stamp : ℕ) : Type 0 where
   pub once : is_drawn v.flight ≡ false
   pub known : v.known ≤ stamp
@@ -28,6 +28,7 @@ pub record HasDrawn (v : View) (stamp : ℕ) : Type 0 where
   pub past : All (IsPast (events_in v.flight)) (calls_at (link_in v.flight) (calls_of v.entries))
 
 module _ {S : Type 0} where
+  -- the stamp was drawn, by a reading, and by a publishing of this forecast, and the view is that after it
   abbrev pub draws_read : Step S → Hand S → ℕ → Hand S → Type 0
   draws_read s m found n = HasDrawn m.0 found × (n ≡ (drew_read m.0 found, m.1))
 

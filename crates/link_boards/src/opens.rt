@@ -33,6 +33,7 @@ struct Reserved<S: LinkSlot> {
     passes: Vec<Pass<S>>,
 }
 
+// Takes that: no thread waits, the words are 0, and there is capacity for the passes. `Err`: out of memory.
 fn reserve<S: LinkSlot>(alloc: Global, links: u32, passes: u32) -> Result<Reserved<S>, AllocError>
     ensures waiting { IfOk result (λ r. vec_len r.waiting ≡ links) }
     ensures words { IfOk result (λ r. r.words.items ≡ replicate (links + 1) 0) }

@@ -1,4 +1,4 @@
-// The rule of the table, and the names of its steps.
+//! The rule of the table, and the names of its steps.
 ghost use Rattle.std.specs.Prelude.{ℕ, List};
 ghost use Rattle.board_model.specs.{declared.boards.BoardEvent.BoardEvent, declared.forecasts.Row.Row};
 ghost use Rattle.link_boards.specs.{Plays.draws_read, Plays.draws_publish, Plays.takes_turn, Plays.gives_turn, Rule.Holds, Views.first_view, Views.dealt, Views.newcomer, Views.courier, Views.spent, Views.informed, Views.ended};

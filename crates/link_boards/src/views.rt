@@ -1,4 +1,4 @@
-// What a seat at the table knows. No value of these types is made, but for the terms.
+//! What a seat at the table knows. No value of these types is made, but for the terms.
 use board_model::{BoardEvent, Call};
 use std::collections::LinkedList;
 

@@ -14,6 +14,6 @@ Settles net Commit old new = IsCommitted net old new × KeepsPast net old new
 Settles net (Publish link) old new = new ≡ old
 Settles net Done old new = new ≡ old
 
--- a node has published, and wants this next; where that is nothing, it rests
+-- a node has published, and wants this next; where that is nothing, it may rest
 abbrev pub HasTold : Want → Acting → Acting → Type 0
 HasTold want old new = (new ≡ wanting want old) ⊎ ((want ≡ Done) × (new ≡ resting (wanting want old)))

@@ -14,7 +14,7 @@ use runs::empty_plans;
 use schedule_meaning::Planner;
 use std::alloc::{AllocError, Global};
 
-/// What a core keeps at first: no history and no plans, with capacity for those of all rounds. `Err`: out of memory.
+/// What a core keeps at first: no history, and no plans, with capacity for the plans of all rounds. `Err`: out of memory.
 pub(crate) fn nothing_kept(alloc: Global, net: &Network) -> Result<Kept, AllocError>
     ensures history { IfOk result (λ kept. kept.history.items ≡ []) }
     ensures plans { IfOk result (λ kept. kept.plans.items ≡ []) }

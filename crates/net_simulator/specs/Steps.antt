@@ -1,4 +1,4 @@
--- What the code does in one second of the world, by what it keeps. No public clause names these words.
+-- What the code does in one second of the world, by what it keeps. No public clause names these definitions.
 use Rattle.std.specs.Prelude.{◌≡◌, ℕ, ◌+◌, ◌*◌, ◌≤◌, min, if◌then◌else◌, List, Option, Some, None, length, slice_index, slice_index_or}
 use Rattle.net_parts.specs.Limits.{most_of_all}
 use Rattle.net_parts.specs.Numbers.{Net}

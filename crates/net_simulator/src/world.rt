@@ -116,7 +116,9 @@ impl World {
         })
     }
 
-    /// The second up to which the world has moved, at most 86,400.
+    /// The second up to which the world has moved.
+    ///
+    /// docs/RULES.md, "World".
     pub fn now(&self) -> u32
         ensures { result ≡ self.now.second }
     {

@@ -81,7 +81,8 @@ impl<'a, P: Planner + Drop, S: LinkSlot, G: Gate> NodeTasks<'a, P, S, G> {
 
     /// All nodes play a round.
     ///
-    /// `Err`: out of memory; the other nodes still play to their ends.
+    /// `Err`: out of memory. Where that was in a node's task, the other nodes still play to their ends; where it was as the nodes begin,
+    /// none plays on.
     pub(crate) fn play<R: Threads + Wait + Sync>(
         &mut self,
         rt: &R,

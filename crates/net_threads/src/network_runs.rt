@@ -139,8 +139,9 @@ fn run_in_threads<
 /// once, in whatever order the machine gives. All tasks of a round are done before the passes meet and the world moves. Each board step is a call of
 /// the node's own pass, and `gate.before` is called before it.
 ///
-/// There is one planner for each node. The boards have as many links as the network; the passes are all passes of these boards, by
-/// number, one for each node, and none has made a call. Each has at least as many calls left as its node has board steps in all rounds.
+/// The arrivals are those of the network, and there is one planner for each node. The boards have as many links as the network; the passes
+/// are all passes of these boards, by number, one for each node, and none has made a call. Each has at least as many calls left as its node
+/// has board steps in all rounds.
 ///
 /// The calls of each pass are its node's board steps, round by round, and each reading has the version that the plan of its round
 /// names. The merge of the logs of these calls is lawful, and where the logs agree with the calls, as those of `close` do, the answer

@@ -1,6 +1,6 @@
-//! The commands over a network: the report of the turn order's run, and what it counted; that of a history's run, and of one in threads; the
-//! instance that a node planned in a run; the summary of a run on a grid; a network as a file of the least version that says
-//! it; and how long its queues can wait.
+//! The commands over a network: the report of the turn order's run, and what it counted; that of a history's run, and of one in threads;
+//! the instance that a node planned in a run; the summary of a run on a grid; a network as a file of the least version that says it; and
+//! how long its queues can wait.
 #![tactic(auto)]
 
 mod bounds;

@@ -42,7 +42,7 @@ impl Model for MemorySink {
 }
 
 impl MemorySink {
-    /// An empty sink with capacity for this many bytes, which are set aside at once. The calls of `put`
+    /// An empty sink with capacity for this many bytes, which are reserved at once. The calls of `put`
     /// that `fails` names will fail; of two entries for one call the first counts. `Err`: out of memory.
     pub fn new(alloc: Global, capacity: usize, fails: Vec<SinkFail>) -> Result<Self, AllocError>
         ensures { IfOk result (λ sink. sink ≡ record {

@@ -20,6 +20,7 @@ first_state = record { delay = 0; queue = 0; on = 0; peak = record { queue = 0; 
 abbrev pub state_at : List LinkState → ℕ → LinkState
 state_at link_states l = slice_index_or link_states l first_state
 
+-- the longest queue that is kept of the link with this number
 abbrev pub peak_of : List LinkState → ℕ → Peak
 peak_of link_states l = (state_at link_states l).peak
 

@@ -16,7 +16,8 @@ use std::alloc::{AllocError, Global};
 use world_records::{finish, start, write_record};
 
 /// The text of a decision of a round: the plan of each node and the rows of its line that the round and later ones need,
-/// and the boards of the links on which a node tells another one. `Err`: out of memory.
+/// and the boards of the links on which a node tells another one. The round begins before second 86,400, and the decision is one of the
+/// network. `Err`: out of memory.
 ///
 /// docs/FORMATS.md, "Decision of a round".
 pub fn decision_text(
@@ -35,7 +36,8 @@ pub fn decision_text(
 }
 
 /// The text of what one node decides in a round: its plan and the rows of its line that the round and later ones need, and
-/// the boards of the links on which it tells another node. `Err`: out of memory.
+/// the boards of the links on which it tells another node. The round begins before second 86,400, and the decision is one of the network.
+/// `Err`: out of memory.
 ///
 /// docs/FORMATS.md, "Decision of a round".
 pub fn node_decision_text(

@@ -40,7 +40,8 @@ pub record IsSensedAt (net : Net) (begin node : ℕ) (s : Sensed) : Type 0 where
   pub now : s.now ≡ begin
   pub sensed : IsSensedOf net node s
 
--- a timeline that goes on in this second: it is lawful for the plan, and its first row has begun and its last ends later
+-- a timeline that goes on in this second: it is lawful for the plan, no row begins after second 100,000, and its first row has begun and
+-- its last ends later
 pub record IsLineAt (plan : List Phase) (now : ℕ) (rows : List Green) : Type 0 where
   pub lawful : IsLawful plan rows
   pub begins : BeginBy last_begin rows

@@ -24,8 +24,8 @@ pub enum StateFault {
     /// The least link whose version is told twice or is more than one above the number of the round, or whose rows are no
     /// forecast, or whose forecast has rows and no version.
     Board(u32),
-    /// The least node whose greens are no lawful timeline that goes on in the first second of the round. A node that is not asked
-    /// may have none.
+    /// The least node whose greens are no lawful timeline that goes on in the first second of the round, or of whose greens one begins
+    /// after second 100,000. A node that is not asked may have none.
     Line(u32),
     /// The least node that senses more than 2,000,000,000 thousandths of a vehicle.
     Sum(u32),

@@ -77,7 +77,7 @@ fn can_have_stood(now: u32, queue: Standing) -> bool
     (queue.stood == 0 || queue.amount > 0) && queue.stood <= now
 }
 
-/// Tests that no green of a node begins too late, where each queue has stood for as long as it can have.
+/// Tests that no green of a node begins too late, where each queue has stood for no longer than it can have.
 fn check_soon(
     net: &Network,
     asked: Asked,
@@ -116,7 +116,7 @@ fn begin_by(second: u32, rows: &[Green]) -> bool
     rows.iter().all(|row| row.from <= second)
 }
 
-/// Tests that none has told on a link in this round, where all nodes are asked, each queue has stood for as long as it can
+/// Tests that none has told on a link in this round, where all nodes are asked, each queue has stood for no longer than it can
 /// have, and no green begins too late.
 fn check_untold(
     net: &Network,

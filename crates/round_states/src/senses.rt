@@ -56,8 +56,8 @@ fn is_sensed_once(entries: &[Entry], link: u32, queues: &[Standing], rows: &[Row
     queues.len() <= 1 && are_rising(rows)
 }
 
-/// What each node senses, where nothing else is at fault. The fault is `Sum` of the least node that senses more than it
-/// may.
+/// What each node senses, where what is sensed of each link and its board are told once, and the greens of each node go on. The fault is
+/// `Sum` of the least node that senses more than it may.
 pub(crate) fn senses(
     alloc: Global,
     net: &Network,

@@ -42,7 +42,7 @@ impl PlanTally {
         }
     }
 
-    /// Counts these plans too, than which no sequence of their instances has less delay.
+    /// Counts these plans too, than which no sequence of their instances has less delay. With them there are fewer than 2^48.
     ///
     /// docs/RULES.md, "Run".
     pub fn add(&mut self, plans: &[PlanRecord])
@@ -91,6 +91,7 @@ fn delay_of(plan: &PlanRecord) -> u64
     ensures value { result ≡ planned_delay plan.now.answer }
     ensures bound { result ≤ greatest_delay }
 {
+    // Called for its clause `instance`.
     let _plan = plan.instance.plan();
     match &plan.answer {
         Answer::NoPlan => 0,

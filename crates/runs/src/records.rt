@@ -25,7 +25,7 @@ pub struct RunRecord {
 }
 
 impl RunRecord {
-    /// What a node planned in a round.
+    /// What a node planned in a round. The record is complete: it has a plan for each round and node. The round and the node exist.
     ///
     /// docs/RULES.md, "Run".
     pub fn plan(&self, net: &Network, round: u32, node: u32) -> &PlanRecord

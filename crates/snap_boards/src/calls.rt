@@ -13,9 +13,9 @@ use std::thread::Threads;
 
 impl SnapBoards {
     /// Reads a link's board: answers the newest version with its forecast, and the stamp that the call drew, which is above
-    /// all that the pass knew. The pass is one of these boards with calls left, the link exists, and the pass is its reader. `gate.inside`
-    /// is called once while the call holds the link's turn. It waits for the turn. The forecast is copied when the turn is given back, or under
-    /// the turn where no place for a reader is free.
+    /// all that the pass knew. The pass is one of these boards with calls left, the link exists, and the pass is its reader.
+    /// `gate.inside` is called once while the call holds the link's turn. It waits for the turn. The forecast is copied when the turn is
+    /// given back, or under the turn where no place for a reader is free or another version is shown.
     ///
     /// `Err`: out of memory; the pass is as it was, and the call adds no event to a log.
     ///

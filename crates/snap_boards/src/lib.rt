@@ -1,6 +1,6 @@
 //! The shared boards whose forecasts are read beside the writer: each link has one pass that publishes and one that reads. A reading
 //! looks at the newest version while it holds the link's turn, and copies it when the turn is given back; where no place for a reader
-//! is free, it copies under the turn.
+//! is free or another version is shown, it copies under the turn.
 #![tactic(auto)]
 
 mod boards;

@@ -11,7 +11,7 @@ pub struct Beside {
     ghost empty: { blank ≡ [] },
 }
 
-/// What a reading has when it draws its stamp: a look at the newest version; or its forecast, where no reader had a place.
+/// What a reading has when it draws its stamp: a look at the newest version; or its forecast, where there is no such look.
 pub enum Ready {
     /// A look, which is copied when the turn is given back.
     Beside(Beside),

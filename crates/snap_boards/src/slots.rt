@@ -18,6 +18,8 @@ use std::marker::Model;
 use std::sync::Wait;
 
 /// The log of a link, and what its reader is shown. Contracts see the log, and the versions that were shown.
+///
+/// docs/DESIGN.md, "Boards whose forecasts are read beside the writer".
 pub struct SnapLog {
     log: BoardLog,
     shower: VersionWriter,
@@ -84,7 +86,7 @@ impl SnapLog {
         log
     }
 
-    /// Looks at the newest version, where a place for a reader is free.
+    /// Looks at the newest version, where a place for a reader is free and what is shown is that version; else none.
     fn look(&mut self) -> Option<ReadGuard>
         requires { self.old.told ≡ published self.old.events }
         ensures same { self.new ≡ self.old }

@@ -8,7 +8,7 @@ use Rattle.net_simulator.specs.Worlds.{line_in, signs_by}
 use Rattle.spillback_world.specs.Storage.{cumulative_in}
 use Rattle.spillback_world.specs.Worlds.{SpillState, Stands}
 
--- after so many rounds: these are the lines that the nodes made, and the world with this store is the one that moved by them
+-- after this number of rounds: these are the lines that the nodes made, and the world with this store is the one that moved by them
 pub record HaveSpilled (net : Net) (arriving : ℕ → ℕ → ℕ) (store : ℕ → ℕ) (rounds : ℕ) (lines : List (List Green)) (w : SpillState) : Type 0 where
   pub acted : HaveActed net (cumulative_in net arriving store) rounds lines
   pub second : w.second ≡ rounds * act_step net

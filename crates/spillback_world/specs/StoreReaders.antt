@@ -1,4 +1,4 @@
--- What the steps of the code answer, and what they keep. No public clause names these words.
+-- What the steps of the code answer, and what they keep. No public clause names these definitions.
 use Rattle.std.specs.Prelude.{◌≡◌, ℕ, ◌⊎◌, List, Option, None, Some, Result, Ok, Err, IsSome, IfSome, IsSomeAnd, All, length, map, unwrap_or, slice_index_or, slice_set}
 use Rattle.foundation.specs.Options.{each}
 use Rattle.net_parts.specs.Numbers.{Net, number_of}

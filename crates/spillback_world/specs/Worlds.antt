@@ -13,8 +13,9 @@ use Rattle.spillback_world.specs.StoredTotals.{stored_totals}
 use Rattle.spillback_world.specs.Storage.{outside, cumulative_in}
 use Rattle.control_flow.specs.declared.greens.Sign.{Sign}
 
--- what a world keeps: its second, the last sign of each node, whether a link of the network has a walk, and for each link since when it is green, its queue, rows of what entered it and of its
--- queues, for how long a queue has stood, what waits outside of it, what is on it, and what is counted
+-- what a world keeps: its second, the last sign of each node, whether a link of the network has a walk, and for each link since when it is
+-- green, its queue, rows of what entered it and of its queues, for how long a queue has stood, what waits outside of it, and what is on
+-- it; and what is counted
 pub record SpillState : Type 0 where
   pub second : ℕ
   pub signs : List Sign

@@ -67,6 +67,7 @@ pub(crate) fn law_of_storages(store: &Store, l: u32)
     requires { l < length store.now }
     ensures { All IsStorage store.now }
 {
+    // Called for its clause `bounds`.
     let _ = store.room(l);
 }
 

@@ -29,8 +29,8 @@ pub fn law_of_ample_storage()
         → IsNetwork net → AreArrivals net arrivals → IsAmple net arrivals shown n }
 {}
 
-/// A timeline counts for a world only by what it shows in the seconds below the world's: which phase is green, and since
-/// when. So a world goes on under timelines that are spliced from its second on.
+/// A timeline counts for a world only by its signs in the seconds below the world's. So a world goes on under timelines that
+/// are spliced from its second on.
 ///
 /// docs/RULES.md, "Storage".
 pub fn law_of_stored_lights()

@@ -110,7 +110,9 @@ impl SpillWorld {
         })
     }
 
-    /// The second up to which the world has moved, at most 86,400.
+    /// The second up to which the world has moved.
+    ///
+    /// docs/RULES.md, "Storage".
     pub fn now(&self) -> u32
         ensures { result ≡ self.now.second }
     {

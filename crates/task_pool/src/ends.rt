@@ -99,7 +99,7 @@ impl<T: Task + Drop> Slot<T> {
         unreachable!()
     }
 
-    /// Closes the slot: no end finds a task there any more.
+    /// Closes the slot, in which nothing is laid: no end finds a task there any more.
     pub fn close(&self, owner: &mut SlotOwner<T>)
         requires slot { IsOwnerOf self.now owner.old }
         requires free { laid_of owner.old ≡ None }

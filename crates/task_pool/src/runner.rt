@@ -76,7 +76,8 @@ fn close_all<T: Task + Drop>(slots: &[Slot<T>], mut owners: Vec<SlotOwner<T>>) -
 }
 
 impl<'a, T: Task + Drop> TaskRunner<'a, T> {
-    /// All tasks done, in the same order, each by whichever thread is free, the calling one among them. It takes no memory.
+    /// All tasks done, in the same order, each by whichever thread is free, the calling one among them. There are as many tasks as slots,
+    /// and each may be done. It takes no memory.
     ///
     /// docs/DESIGN.md, "Tasks and threads".
     pub fn run_all<R: Threads + Wait + Sync>(&mut self, rt: &R, mut tasks: Vec<T>) -> Vec<T>

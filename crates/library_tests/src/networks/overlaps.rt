@@ -28,6 +28,7 @@ const RUN: Run = Run {
     rate: None,
 };
 
+/// The times of each phase.
 const TIMES: Phase = Phase {
     least: 5,
     greatest: 30,
@@ -80,6 +81,7 @@ const REPORT: &str = "kind,round,node,x,y,z,w\ngreen,,a,0,0,10,\n\
 const THROUGH: &str = "kind,round,node,x,y,z,w\ngreen,,a,0,0,10,\ngreen,,a,1,15,20,\n\
     link,,,through,0,0,0\nlink,,,left,0,0,0\nlink,,,cross,0,0,0\nlink,,,out,0,0,0\ntotal,,,0,0,0,0\n";
 
+/// A word as a name.
 fn name(alloc: Global, word: &str) -> Result<Text, AllocError> {
     Ok(Text::from_string(String::from_str(alloc, word)?))
 }

@@ -1,4 +1,4 @@
-//! Single servings, whole sequences, and the parts that they stand on.
+//! Single servings, whole sequences, and the parts that they depend on.
 
 ghost use Rattle.std.specs.Prelude.{◌≡◌, ◌<◌, length};
 
@@ -347,7 +347,7 @@ fn numbers_of_orders(rt: HostRuntime) {
     assert_eq!(rt; ways(&[10, 9]), 50001);
 }
 
-/// The instance of these phases, with these lines behind them.
+/// The instance of these phases, with these lines after them.
 pub(crate) fn instance(alloc: Global, phases: &str, rest: &str) -> Result<Instance, Fail> {
     let text = [phases, rest, "end\n"].concat(alloc)?;
     if text.len() > 10_000 {
@@ -365,6 +365,7 @@ fn first_served(i: &Instance, phase: u8) -> Option<Result<Served, Unfit>> {
     first_counted::<Brand>(i, phase, Blank::new(1))
 }
 
+// The same, with the steps counted.
 fn first_counted<L: Ledger>(i: &Instance, phase: u8, blank: Blank) -> Option<Result<Served, Unfit>>
     requires name { blank.name ≡ L.name }
     requires parts { blank.parts ≡ L.parts }
@@ -389,6 +390,7 @@ fn replayed(i: &Instance, sequence: &[u8]) -> Result<Timed, SeqFault>
     replay_counted::<Brand>(i, sequence, Blank::new(1))
 }
 
+// The same, with the steps counted.
 fn replay_counted<L: Ledger>(i: &Instance, sequence: &[u8], blank: Blank) -> Result<Timed, SeqFault>
     requires name { blank.name ≡ L.name }
     requires parts { blank.parts ≡ L.parts }

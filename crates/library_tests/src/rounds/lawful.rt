@@ -54,6 +54,7 @@ fn shown(alloc: Global, rounds: u32, histories: Option<&str>) -> Result<String, 
     }
 }
 
+/// The same of a network.
 fn answer(alloc: Global, net: &Network, histories: Option<&str>) -> Result<String, AllocError> {
     match histories {
         None => steps_shown(alloc, net),

@@ -1,4 +1,4 @@
-// The shelf over files and the sink over a stream.
+//! The shelf over files and the sink over a stream.
 
 use outside_world::{FileShelf, Shelf, ShelfFault, Sink, StreamSink};
 use std::fs;

@@ -1,4 +1,4 @@
-// Sinks that keep more of a piece that fails than recorded cases have, and the want of memory in mid-work.
+//! Sinks that keep more of a piece that fails than recorded cases have, and memory that runs out in mid-work.
 
 use super::calls::{Faults, NO_FAULTS, TWO_CLUSTERS, TWO_CLUSTERS_PLAN, run};
 use outside_world::SinkFail;
@@ -49,7 +49,7 @@ fn faulty(rt: HostRuntime) -> Result<(), Fail> {
     Ok(())
 }
 
-// Whichever allocation fails: the right answer, or the want of memory with nothing written.
+// Whichever allocation fails: the right answer, or out of memory with nothing written.
 #[test]
 fn plan_whichever_is_refused(rt: HostRuntime) {
     let words = ["plan", "file"];

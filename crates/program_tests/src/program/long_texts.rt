@@ -1,4 +1,4 @@
-// Texts as long as a text may be, and longer.
+//! Texts as long as a text may be, and longer.
 
 use super::calls::{NO_FAULTS, run_with_room};
 use signal_cli::Status;

@@ -1,4 +1,4 @@
-// The words of a command line, and the exit status that they end with.
+//! The words of a command line, and the exit status that they end with.
 
 use super::calls::{TWO_CLUSTERS, TWO_CLUSTERS_PLAN};
 use signal_cli::run;
