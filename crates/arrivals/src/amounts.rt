@@ -42,7 +42,7 @@ impl Arrivals {
     ghost use Rattle.arrivals.specs.{Amounts.Amounts, Amounts.AreArrivals, Amounts.AreArrivalsOf, Amounts.AreKept, Amounts.AreRising, Amounts.amount_to, Amounts.arriving_of, Faults.IsRowFault, Rows.amount_of, Rows.arriving_by};
     ghost use Rattle.arrivals.specs.declared.rows.ArrivalRow.{ArrivalRow};
 
-    /// The arrivals of these rows, which may stand in any order; rows of one link and second are added.
+    /// The arrivals of these rows, which may be in any order; rows of one link and second are added.
     ///
     /// The fault is out of memory, or `Link`, `Bound` or `Sum` of the first row at fault, in this order within a row.
     ///
@@ -58,7 +58,7 @@ impl Arrivals {
         Ok(Arrivals::of_rows(alloc, rows)?)
     }
 
-    /// The arrivals of rows that may stand in any order. `Err`: out of memory.
+    /// The arrivals of rows that may be in any order. `Err`: out of memory.
     pub(crate) fn of_rows(alloc: Global, mut rows: Vec<ArrivalRow>) -> Result<Arrivals, AllocError>
         requires least { All (λ (row : ArrivalRow). 1 ≤ row.amount) rows.items }
         requires few { sum_by amount_of rows.items ≤ most_of_all }

@@ -79,7 +79,8 @@ fn scaled_rows(
     Ok(rows)
 }
 
-/// Adds rows that bring what the scaled arrivals have of a row, where `entered` has what entered each link before it; it then has the row too.
+/// Adds rows that bring what the scaled arrivals have of a row, where `entered` has what entered each link before it; it then has the
+/// row too.
 fn push_row(
     net: &Network,
     row: &ArrivalRow,
@@ -114,7 +115,7 @@ fn share_of(amount: u64, factor: u32) -> u64
     amount * u64::from(factor) / 1000
 }
 
-/// Adds rows that bring an amount to a link in a second, each as much as a row may bring.
+/// Adds rows that bring an amount to a link in a second, each at most as much as a row may bring.
 fn push_amount(
     net: &Network,
     link: u32,

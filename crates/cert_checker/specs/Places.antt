@@ -5,7 +5,7 @@ use Rattle.dp_certificate.specs.NextEntry.{stage_of_next}
 use Rattle.dp_certificate.specs.Proves.{HasEntry, IsTooDear, key_of_entry}
 use Rattle.dp_certificate.specs.declared.Entry.{Entry}
 
--- it is an entry again, of no more delay, or too dear
+-- what is served next, written as an entry, has the key of an entry of no more delay, or is too dear
 abbrev pub IsMet : Claim → Entry → Type 0
 IsMet c next = HasEntry c.entries (key_of_entry next) next.delay ⊎ IsTooDear c.problem c.answer (stage_of_next next)
 

@@ -32,8 +32,8 @@ IsFirstNot P entries n = (1 ≤ n) × (n - 1 < length entries) × All P (take (n
 abbrev pub IsOpenAt : Claim → Entry → ℕ → Type 0
 IsOpenAt c e k = ((j : ℕ) → j < k → IsClosedAt c e j) × ¬ IsClosedAt c e k
 
--- why a certificate does not prove its answer: the first of the claimed plan's fault, its other delay, the first stage
--- that is no entry, the first entry that is not closed with its least such phase, and the first entry at the end that
+-- why a certificate does not prove its answer: the first of the claimed plan's fault, its other delay, that the first stage
+-- is no entry with no delay, the first entry that is not closed with its least such phase, and the first entry at the end that
 -- undercuts the answer; entries are numbered from 1
 abbrev pub IsWhy : Claim → Why → Type 0
 IsWhy c (Sequence fault) = IsClaimFault c.problem c.answer fault

@@ -53,8 +53,8 @@ pub enum Verdict {
 impl CrossesThreads for Verdict {}
 
 /// Whether the entries of a certificate prove its answer, in at most one step for each phase of each entry and each
-/// place of the claimed sequence. It takes no memory. The delay of an accepted answer is that of the best answer, and an
-/// accepted answer with no plan has none exactly where the best answer has none.
+/// place of the claimed sequence. It takes no memory. The delay of an accepted answer is that of the best answer, and it is
+/// no plan exactly where the best answer is none.
 ///
 /// docs/RULES.md, "Certificate".
 pub fn check<L: Ledger>(c: &Certificate, steps: &mut Steps<L>) -> Verdict

@@ -18,7 +18,7 @@ use Rattle.certificate_form.specs.declared.reading.Lines.{Lines}
 abbrev pub claim_of_lines : Lines → Claim
 claim_of_lines l = record { problem = record { plan = l.form.phases.items; head = l.form.head; lists = l.form.lists.items }; entries = l.entries.items; answer = l.answer }
 
--- it is out of memory
+-- the fault is out of memory
 abbrev pub IsOutOfMemory : CertText → Type 0
 IsOutOfMemory (Line n) = ⊥
 IsOutOfMemory (Plan fault) = ⊥

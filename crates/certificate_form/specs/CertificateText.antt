@@ -20,7 +20,7 @@ answer_line NoPlan = line (codes "answer none" ∷ [])
 abbrev pub entry_line : ℕ → Entry → List ℕ
 entry_line phases e = line (codes "entry" ∷ map decimal (take phases e.counts ++ e.phase ∷ e.since ∷ e.at ∷ e.delay ∷ []))
 
--- such a line up to the phase, and what follows
+-- the line of an entry up to the phase, and what follows
 abbrev pub entry_front : ℕ → Entry → List ℕ
 entry_front phases e = codes "entry" ++ (flat_map after_space (take phases e.counts) ++ after_space e.phase)
 

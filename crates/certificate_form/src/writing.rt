@@ -45,6 +45,8 @@ pub fn write_certificate(alloc: Global, c: &Certificate) -> Result<Vec<u8>, Allo
 }
 
 /// Why a certificate's text was not written whole.
+///
+/// docs/FORMATS.md, "Certificate text".
 #[derive(Debug, Clone, Copy, PartialEq, Eq)]
 pub enum PutFault {
     /// Memory ran out, and nothing was written.

@@ -37,11 +37,11 @@ amount_load (Some age) weight stood amount = min (greatest_weight * amount) (amo
 abbrev pub aged_load_of : Option ℕ → Net → Sensed → Part → ℕ
 aged_load_of age net sensed part = sum_by (amount_load age (link_at net part.link).weight (sense_of sensed part.link).stood) part.amounts
 
--- the platoon with a load that counts so many times, and at most 20 times its size
+-- the platoon with a load that counts this many times, and at most 20 times its size
 abbrev pub with_held_load : ℕ → Platoon → Platoon
 with_held_load hold p = record { cluster = record p.cluster { load = min (greatest_weight * p.cluster.size) (hold * p.cluster.load) }; parts = p.parts }
 
--- these platoons, of which the first counts so many times where it has arrived by this second; without a hold as they are
+-- these platoons, of which the first counts this many times where it has arrived by this second; without a hold as they are
 abbrev pub first_with_hold : Option ℕ → ℕ → List Platoon → List Platoon
 first_with_hold None at list = list
 first_with_hold (Some hold) at [] = []
@@ -67,7 +67,7 @@ pub record AreExpected (net : Net) (node : ℕ) (head : Head) (sensed : Sensed) 
   pub count : length lists ≡ length (plan_at net node)
   pub each : (k : ℕ) → k < length lists → AreExpectedIn net node head sensed k (streams_of net sensed heard (phase_links_at net node k)) (platoons_at lists k)
 
--- the network asks for none of them
+-- the network asks for none of `split`, `age`, `hold` and `rate`
 pub record AsksNothing (net : Net) : Type 0 where
   pub split : net.run.split ≡ false
   pub age : net.run.age ≡ None

@@ -52,7 +52,7 @@ pub record ArePlatoonsBy (load : Part → ℕ) (gap rate : ℕ) (span : ℕ → 
   pub cut : IsCutBy gap rate span (together streams look) runs
   pub each : platoons ≡ map (platoon_of load now streams) runs
 
--- the same with one span, whatever comes in a second
+-- the platoons of a phase, as `ArePlatoonsBy` has them, with one span for all runs, whatever comes in a second
 abbrev pub ArePlatoons : (Part → ℕ) → ℕ → ℕ → ℕ → ℕ → List Part → List Platoon → Type 0
 ArePlatoons load gap most = ArePlatoonsBy load gap 0 (λ first. most)
 

@@ -1,4 +1,4 @@
--- What the steps of the work make: an inflow, and the runs of a series. No public clause names these words.
+-- What the steps of the work make: an inflow, and the runs of a series. No public clause names these.
 use Rattle.std.specs.Prelude.{◌≡◌, ℕ, ◌+◌, ◌-◌, ◌<◌, ◌≤◌, ◌⊎◌, Option, Some, None, IfSome, List, length, slice_index, sum, All, ◌==◌, if◌then◌else◌}
 use Rattle.net_parts.specs.Limits.{most_sat}
 use Rattle.board_model.specs.declared.boards.Heard.{Heard}
@@ -32,7 +32,7 @@ pub record IsRunUpTo (gap rate most : ℕ) (series : List ℕ) (first end : ℕ)
   pub begins : first_of (filled_from series first (end - first)) ≡ first
   pub ends : last_of (filled_from series first (end - first)) + 1 ≡ end
 
--- and the next second that is not empty could not have joined
+-- the next second after a run that is not empty could not have joined it
 abbrev pub IsClosed : ℕ → ℕ → ℕ → List ℕ → ℕ → ℕ → Type 0
 IsClosed gap rate most series first end = (x : ℕ) → IsNext series end x
     → (end + gap < x) ⊎ (first + most < x + 1) ⊎ FallsBelow rate series (filled_from series first (end - first)) x
@@ -42,11 +42,11 @@ abbrev pub span_at : Option (ℕ × ℕ) → ℕ → ℕ → ℕ
 span_at None most x = most
 span_at (Some first) most x = if x == first.0 then first.1 else most
 
--- it spans a second at least, and 240 at most
+-- each run may span a second at least, and 240 at most
 abbrev pub AreSpans : Option (ℕ × ℕ) → ℕ → Type 0
 AreSpans first most = (x : ℕ) → (1 ≤ span_at first most x) × (span_at first most x ≤ 240)
 
--- how many it may where the first run, if a head is given, is to end in the green of that head
+-- how many seconds a run may span that begins in second x, where the first run, if a head is given, is to end in the green of that head
 abbrev pub span_with : Option Head → ℕ → ℕ → ℕ → List ℕ → ℕ → ℕ
 span_with None greatest most now series x = most
 span_with (Some head) greatest most now series x = if x == first_of (filled series) then span_in_green greatest most head (now + x) else most

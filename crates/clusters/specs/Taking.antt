@@ -1,4 +1,4 @@
--- What the steps of taking platoons into a window find: `counts` of each phase have been taken. No public clause names these words.
+-- What the steps of taking platoons into a window find: `counts` of each phase have been taken. No public clause names these.
 use Rattle.std.specs.Prelude.{◌≡◌, ℕ, ◌<◌, ◌≤◌, List, Option, Some, None, length, slice_index, take}
 use Rattle.switch_rules.specs.Arriving.{ComesFirst}
 use Rattle.clusters.specs.declared.vehicle_groups.Platoon.{Platoon}
@@ -17,7 +17,7 @@ pub record IsFirstAmong (lists : List (List Platoon)) (counts : List ℕ) (i : �
   pub arr : first.0 ≡ arrival lists first.1 (slice_index counts first.1)
   pub comes : (k : ℕ) → k < i → slice_index counts k < length (platoons_at lists k) → ComesFirst first.0 first.1 (arrival lists k (slice_index counts k)) k
 
--- or none is left
+-- of the first i phases, the platoon that comes first of those not taken; none where none of them has one left
 abbrev pub IsFirstOf : List (List Platoon) → List ℕ → ℕ → Option (ℕ × ℕ) → Type 0
 IsFirstOf lists counts i None = (k : ℕ) → k < i → length (platoons_at lists k) ≤ slice_index counts k
 IsFirstOf lists counts i (Some first) = IsFirstAmong lists counts i first

@@ -73,7 +73,8 @@ fn amount_load(age: u32, grown: u32, amount: u32) -> u32
     (GREATEST_WEIGHT * amount).min(amount * grown / age)
 }
 
-/// Lets the load of the first of these platoons count so many times, where it has arrived by this second.
+/// Lets the load of the first of these platoons count this many times, and at most 20 times its size, where it has arrived by
+/// this second.
 pub(crate) fn hold_first(list: &mut [Platoon], hold: u32, at: u32)
     requires { AreSpacedClusters (clusters_of list.old) }
     ensures { list.new ≡ first_with_hold (Some hold) at list.old }
@@ -85,7 +86,7 @@ pub(crate) fn hold_first(list: &mut [Platoon], hold: u32, at: u32)
     list[0].cluster.load = held_load(hold, cluster.size, cluster.load);
 }
 
-/// A load that counts so many times, and at most 20 times the size.
+/// A load that counts this many times, and at most 20 times the size.
 fn held_load(hold: u32, size: u32, load: u32) -> u32
     requires { size ≤ greatest_size }
     ensures { result ≡ min (greatest_weight * size) (hold * load) }

@@ -58,10 +58,11 @@ pub fn platoons(
 /// The platoons that a node expects whose signal has this head, phase by phase, as its network asks for them: those of
 /// `platoons`, where the network has no `split`, `age`, `hold` and `rate` (`law_without_options`).
 ///
-/// With `rate` a platoon ends before a second in which less comes than so many thousandths of its greatest amount. With
+/// With `rate` a platoon ends before a second in which less comes than `rate` thousandths of its greatest amount. With
 /// `split` the first platoon of the head's phase ends in the standing green, where that still stands as the
 /// platoon can start. With an age a link counts more in the loads the longer its queue stands. With `hold` the load of
-/// the first platoon of the head's phase counts so many times, where it has arrived by the head's second `at`.
+/// the first platoon of the head's phase counts `hold` times, and at most 20 times its size, where it has
+/// arrived by the head's second `at`.
 ///
 /// `Err`: out of memory.
 ///

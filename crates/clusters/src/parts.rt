@@ -80,6 +80,8 @@ impl Parts {
     /// No parts, of no links.
     ///
     /// `Err`: out of memory.
+    ///
+    /// docs/RULES.md, "Platoons".
     pub fn none(alloc: Global) -> Result<Parts, AllocError>
         ensures { IfOk result (λ parts. parts ≡ []) }
     {
@@ -109,6 +111,8 @@ impl Parts {
     }
 
     /// How many parts there are.
+    ///
+    /// docs/RULES.md, "Platoons".
     pub fn len(&self) -> usize
         ensures { result ≡ length self.now }
     {

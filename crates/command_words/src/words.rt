@@ -84,7 +84,7 @@ pub enum Command<'a> {
         arr: &'a str,
         plan: &'a str,
     },
-    /// Writes what two runs counted in all for arrivals scaled by several factors, in thousandths.
+    /// Writes what two runs counted in all for arrivals scaled by each of some factors, at most 20, in thousandths.
     Scale {
         net: &'a str,
         arr: &'a str,
@@ -148,7 +148,9 @@ pub enum Command<'a> {
     },
 }
 
-/// The command that the words are.
+/// The command that the words are; none where they are those of no command.
+///
+/// docs/FORMATS.md, "Words".
 pub fn command_of(words: &[Text]) -> Option<Command<'_>>
     ensures some { IfSome result (λ command. IsCall words.now (call_of command)) }
     ensures none { IfNone result ((call : Call) → ¬ IsCall words.now call) }
@@ -187,7 +189,7 @@ pub fn command_of(words: &[Text]) -> Option<Command<'_>>
     }
 }
 
-// The command of this word over a network and what enters it, with these words after it.
+// The command of this word over a network, and what enters it or a state of it, with these words after it.
 fn network_command<'a>(word: &str, rest: &'a [Text]) -> Option<Command<'a>>
     ensures some { IfSome result (λ command. IsCall (word.now ∷ rest.now) (call_of command)) }
     ensures none { IfNone result ((call : Call) → IsOverNetwork call → ¬ IsCall (word.now ∷ rest.now) call) }
@@ -231,8 +233,8 @@ fn network_command<'a>(word: &str, rest: &'a [Text]) -> Option<Command<'a>>
     }
 }
 
-// The command of this word that runs a network under several controllers or decides a round of it, with these words
-// after it.
+// The command of this word that runs a network under other controllers than the planners, or under several, or decides a round
+// of it, with these words after it.
 fn controllers_command<'a>(word: &str, rest: &'a [Text]) -> Option<Command<'a>>
     ensures some { IfSome result (λ command. IsCall (word.now ∷ rest.now) (call_of command)) }
     ensures none { IfNone result ((call : Call) → IsOfControllers call → ¬ IsCall (word.now ∷ rest.now) call) }

@@ -27,11 +27,11 @@ bound_record net bounds = node_name_at net bounds.node ∷ decimal bounds.phase 
 abbrev pub bound_records : Net → ℕ → List (List (List ℕ))
 bound_records net node = map (λ k. bound_record net (phase_bounds net node k)) (range_with_len 0 (length (plan_at net node)))
 
--- the header of this text
+-- the header of the text of bounds
 abbrev pub header : List (List ℕ)
 header = codes "node" ∷ codes "phase" ∷ codes "planned" ∷ codes "actuated" ∷ []
 
--- the text: a record for each phase of each node, in the order of the network's file
+-- the text of bounds: a record for each phase of each node, in the order of the network's file
 abbrev pub bounds_text : Net → List ℕ
 bounds_text net = records_text (header ∷ flat_map (bound_records net) (range_with_len 0 (length net.node_names)))
 
@@ -47,14 +47,14 @@ abbrev pub fixed_record : Net → PhaseBounds → Result ℕ NoBound → Option 
 fixed_record net bounds fixed red =
     node_name_at net bounds.node ∷ decimal bounds.phase ∷ bound_field bounds.planned ∷ bound_field bounds.actuated ∷ bound_field fixed ∷ red_field red ∷ []
 
--- the records of the bounds of a node's phases
+-- the records of the bounds of a node's phases, with those under a fixed plan
 abbrev pub fixed_records : Net → List FixedRow → ℕ → List (List (List ℕ))
 fixed_records net rows node = map (λ k. fixed_record net (phase_bounds net node k) (fixed_bounds net rows node k) (fixed_red net rows node k)) (range_with_len 0 (length (plan_at net node)))
 
--- the header of this text
+-- the header of the text of bounds with a fixed plan
 abbrev pub fixed_header : List (List ℕ)
 fixed_header = codes "node" ∷ codes "phase" ∷ codes "planned" ∷ codes "actuated" ∷ codes "fixed" ∷ codes "red" ∷ []
 
--- the text: a record for each phase of each node, in the order of the network's file
+-- the text of bounds with a fixed plan: a record for each phase of each node, in the order of the network's file
 abbrev pub fixed_bounds_text : Net → List FixedRow → List ℕ
 fixed_bounds_text net rows = records_text (fixed_header ∷ flat_map (fixed_records net rows) (range_with_len 0 (length net.node_names)))

@@ -35,7 +35,7 @@ use Rattle.commands.specs.Verdicts.{accepted_line, rejected_line, unclean_line}
 use Rattle.commands.specs.declared.refusals.Named.{Named}
 use Rattle.commands.specs.declared.refusals.Named.TheVariants.{Factor, Node, Round}
 
--- the texts that it reads, in the order of its words
+-- the texts that a command reads, in the order of its words
 abbrev pub texts_of : Call → Texts
 texts_of (Plan file) = Next InstanceText file (λ said. NoMore)
 texts_of (Certify file) = Next InstanceText file (λ said. NoMore)
@@ -127,7 +127,7 @@ IsRejectionOf (Queues net arr report) said bytes =
     × (bytes ≡ unclean_line said.0 why)
 IsRejectionOf _ said bytes = ⊥
 
--- what a word of the command names is not in its texts: the network has no such node, or it has, and fewer rounds; or, scaled by
+-- what a word of the command names is not in its texts: the network has no such node, or it has, and no such round; or, scaled by
 -- one of the factors, the arrivals bring more than arrivals may
 abbrev pub IsMissing : (call : Call) → AllSaid (texts_of call) → Named → Type 0
 IsMissing (Instance net arr hist node round) said Node = number_of said.0.node_names node ≡ None

@@ -26,7 +26,7 @@ use Rattle.waits.specs.Discharges.{AreWaitsWithin}
 use Rattle.commands.specs.Headline.{IsRunOf}
 use Rattle.commands.specs.Summary.{scale_line, totals_line}
 
--- The run of a network under actuated control, where this enters each link in each second: all last lines are lawful, the network is
+-- The run of a network under actuated control, where this enters each link in each second: all last timelines are lawful, the network is
 -- safe under them, and in each second of the run they show the signs by which the world moved; and each queue of a phase that has a
 -- bound, of a link without a walk, loses something within it.
 pub record IsActuatedRun (net : Net) (arriving : ℕ → ℕ → ℕ) (record_of_run : LineRun) : Type 0 where

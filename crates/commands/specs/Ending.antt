@@ -47,7 +47,7 @@ pub record IsWritten (bytes : List ℕ) (means : Status) (out out' err err' : Si
   pub gains : Gains out out' bytes
   pub same : err' ≡ err
 
--- they could not be written whole: a front of them was, and nothing after it
+-- these bytes could not be written whole: a front of them was, and nothing after it
 pub record IsBroken (bytes : List ℕ) (out out' err err' : SinkState) (status : Status) : Type 0 where
   pub is : status ≡ WriteFault
   pub breaks : Breaks out out' bytes

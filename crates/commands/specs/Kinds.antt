@@ -141,6 +141,6 @@ StateText net = record { Said = RoundState; is_text = IsStateText net AllNodes; 
 abbrev pub NodeStateText : Net → Option ℕ → Kind
 NodeStateText net node = record { Said = RoundState; is_text = IsStateText net (OneNode node); is_fault = IsBadState net (OneNode node) }
 
--- the same of a node by its name
+-- the kind of texts that say the state in which a round begins for a node alone, by the node's name
 abbrev pub node_state_of : List ℕ → Net → Kind
 node_state_of name net = NodeStateText net (number_of net.node_names name)

@@ -26,8 +26,8 @@ abbrev pub spilled_under : Net → (ℕ → ℕ → ℕ) → List ℕ → (ℕ �
 spilled_under net arriving store shown =
     stored_totals net arriving (cumulative_in net arriving (slice_index store) shown (end_of_run net)) (end_of_run net)
 
--- The bytes are two lines: what is counted under the last lines of the run of the turn order, and under actuated control that
--- senses the links as they then are: its last lines are lawful and safe, and show the signs by which that world moved.
+-- The bytes are two lines: what is counted under the last timelines of the run of the turn order, and under actuated control that
+-- senses the links as they then are: its last timelines are lawful and safe, and show the signs by which that world moved.
 pub record IsSpillTable (net : Net) (arriving : ℕ → ℕ → ℕ) (store : List ℕ) (bytes : List ℕ) : Type 0 where
   pub run : RunRecord
   pub runs : IsRunOf net arriving (turn_order net) run
@@ -44,8 +44,8 @@ pub record IsSpillTable (net : Net) (arriving : ℕ → ℕ → ℕ) (store : Li
 abbrev pub told_totals : SpillTotals → Totals
 told_totals t = record { entered = t.entered; left = t.left; on = t.on; delay = t.delay }
 
--- what the report of a spill run says of greens and totals: the last lines of the run, and what the world with the store counts under
--- them
+-- what the report of a spill run says of greens and totals: the last timelines of the run, and what the world with the store counts
+-- under them
 abbrev pub spill_sheet : Net → (ℕ → ℕ → ℕ) → List ℕ → SpillRun → Sheet
 spill_sheet net arriving store run = record {
   lines = run.timelines;
@@ -53,9 +53,9 @@ spill_sheet net arriving store run = record {
   totals = told_totals run.totals;
 }
 
--- The bytes are the report of the run under actuated control in the world with the store: its last lines are lawful and safe, and show
--- the signs by which that world moved; all totals are what is counted in that world. The bytes are the text of the sheet with the
--- greens that the report tells of these lines, and with these totals.
+-- The bytes are the report of the run under actuated control in the world with the store: its last timelines are lawful and safe, and
+-- show the signs by which that world moved; all totals are what is counted in that world. The bytes are the text of the sheet with the
+-- greens that the report tells of these timelines, and with these totals.
 pub record IsSpillReport (net : Net) (arriving : ℕ → ℕ → ℕ) (store : List ℕ) (bytes : List ℕ) : Type 0 where
   pub run : SpillRun
   pub runs : IsSpillRun net arriving (slice_index store) run

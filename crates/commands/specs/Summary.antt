@@ -16,7 +16,7 @@ number_line word numbers = line (word ∷ map decimal numbers)
 abbrev pub totals_line : List ℕ → Totals → List ℕ
 totals_line word totals = number_line word (totals.entered ∷ totals.left ∷ totals.on ∷ totals.delay ∷ [])
 
--- the same where links hold so much and no more, with what waits outside
+-- a line of a word and what was counted in all where links hold what a store says and no more, with what waits outside
 abbrev pub spilled_line : List ℕ → SpillTotals → List ℕ
 spilled_line word totals = number_line word (totals.entered ∷ totals.left ∷ totals.on ∷ totals.outside ∷ totals.delay ∷ [])
 
@@ -38,7 +38,7 @@ summary_lines number side rounds tally totals =
     ++ number_line (codes "delay") (tally.delay ∷ [])
     ++ totals_line (codes "total") totals
 
--- those of a run
+-- the five lines of the summary of a run
 abbrev pub summary_text : ℕ → ℕ → ℕ → RunRecord → List ℕ
 summary_text number side rounds run =
     summary_lines number side rounds (record { plans = length run.plans; none = none_count run.plans; delay = planned_delays run.plans }) run.totals

@@ -6,6 +6,8 @@ use outside_world::Sink;
 use std::alloc::Global;
 
 /// What a command made.
+///
+/// docs/FORMATS.md, "Exit statuses and lines of refusal".
 #[derive(Drop)]
 pub enum Made {
     /// The work is done, and this is to be written.
@@ -16,6 +18,8 @@ pub enum Made {
 
 /// Writes what a command made, or why it made nothing, and answers how it ended. Where a put fails, a front of what was made is
 /// written, and nothing after it.
+///
+/// docs/FORMATS.md, "Exit statuses and lines of refusal".
 pub fn end<O: Sink, E: Sink>(
     alloc: Global,
     made: Result<Made, Refusal>,

@@ -9,6 +9,8 @@ use std::alloc::{AllocError, Global};
 use text_faults::{BadText, push_code, push_one};
 
 /// Which of a command's texts, in the order of its words.
+///
+/// docs/FORMATS.md, "Exit statuses and lines of refusal".
 #[derive(Debug, Clone, Copy, PartialEq, Eq)]
 pub enum TextPlace {
     /// The first, with number 1 in a line of refusal.
@@ -20,6 +22,8 @@ pub enum TextPlace {
 }
 
 /// What a word can name in the texts, or the factor by which the arrivals cannot be scaled.
+///
+/// docs/FORMATS.md, "Exit statuses and lines of refusal".
 #[derive(Debug, Clone, Copy, PartialEq, Eq)]
 pub enum Named {
     /// A node of the network, by its name.
@@ -62,6 +66,8 @@ impl From<AllocError> for Refusal {
 
 /// Writes the line of a refusal, or that of `NoMemory` where there is no memory for the line, and answers the status that
 /// goes with it. Where the sink fails, a front of the line is written, and the status stays.
+///
+/// docs/FORMATS.md, "Exit statuses and lines of refusal".
 pub fn refuse<E: Sink>(alloc: Global, why: Refusal, err: &mut E) -> Status
     ensures { Refuses why (E.state err.old) (E.state err.new) result }
 {

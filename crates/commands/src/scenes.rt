@@ -15,6 +15,8 @@ use round_states::{Asked, RoundState};
 use std::alloc::Global;
 
 /// A network, and what a text after its own says of it.
+///
+/// docs/FORMATS.md, "Words".
 #[derive(Drop)]
 pub struct NetworkWith<T> {
     /// The network.
@@ -26,6 +28,8 @@ pub struct NetworkWith<T> {
 /// The network of a command's first text, and what its second says of it.
 ///
 /// `Err`: that of the first text that can't be had, as `fetch` says.
+///
+/// docs/FORMATS.md, "Words".
 pub fn fetch_network_with<T: FromText<Over = Network>, S: Shelf>(
     alloc: Global,
     shelf: &mut S,
@@ -47,6 +51,8 @@ pub fn fetch_network_with<T: FromText<Over = Network>, S: Shelf>(
 /// The network of a command's first text, and what its second says of a round of it for the node with this name alone.
 ///
 /// `Err`: that of the first text that can't be had, as `fetch` says.
+///
+/// docs/FORMATS.md, "Words".
 pub fn fetch_node_state<S: Shelf>(
     alloc: Global,
     shelf: &mut S,
@@ -73,6 +79,8 @@ pub fn fetch_node_state<S: Shelf>(
 }
 
 /// A network, and arrivals at it.
+///
+/// docs/FORMATS.md, "Words".
 #[derive(Drop)]
 pub struct Scene {
     /// The network.
@@ -84,6 +92,8 @@ pub struct Scene {
 /// The network of a command's first text, and the arrivals at it of its second.
 ///
 /// `Err`: that of the first text that can't be had, as `fetch` says.
+///
+/// docs/FORMATS.md, "Words".
 pub fn fetch_scene<S: Shelf>(
     alloc: Global,
     shelf: &mut S,
@@ -105,6 +115,8 @@ pub fn fetch_scene<S: Shelf>(
 }
 
 /// A network, arrivals at it, and what a third text says of the network.
+///
+/// docs/FORMATS.md, "Words".
 #[derive(Drop)]
 pub struct SceneWith<T> {
     /// The network and the arrivals.
@@ -116,6 +128,8 @@ pub struct SceneWith<T> {
 /// The network of a command's first text, the arrivals at it of its second, and what its third says of the network.
 ///
 /// `Err`: that of the first text that can't be had, as `fetch` says.
+///
+/// docs/FORMATS.md, "Words".
 pub fn fetch_scene_with<T: FromText<Over = Network>, S: Shelf>(
     alloc: Global,
     shelf: &mut S,

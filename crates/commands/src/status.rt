@@ -13,7 +13,7 @@ pub enum Status {
     Rejected = 1,
     /// The words are no command.
     Usage = 2,
-    /// A text, or a word that names something in it, is refused.
+    /// A text is refused, or a word that names what is not in the texts, or a factor by which the arrivals cannot be scaled.
     BadInput = 3,
     /// A text can't be read.
     ReadFault = 4,

@@ -13,6 +13,8 @@ use text_faults::BadText;
 pub const MOST_BYTES: usize = 100_663_296;
 
 /// Why a text is read as nothing.
+///
+/// docs/FORMATS.md, "Codes of a bad text".
 #[derive(Debug, Clone, Copy, PartialEq, Eq)]
 pub enum Flaw {
     /// It is none of its kind, and this is wrong with it.
@@ -22,6 +24,8 @@ pub enum Flaw {
 }
 
 /// What is read of a text of a command.
+///
+/// docs/FORMATS.md, "Words".
 pub trait FromText: Drop {
     ghost use Rattle.std.specs.Prelude.{◌≤◌, IfErr, IfOk, length};
     ghost use Rattle.commands.specs.{Flaws.IsFlaw, Kinds.Kind, Limits.most_bytes, Texts.IsReadAs};
@@ -51,6 +55,8 @@ pub trait FromText: Drop {
 /// What the text at this place says. What it is read over is the network of a text before it, or `()`.
 ///
 /// `Err`: `Unread` where the shelf fails, `Bad` where the text is too long or is none of its kind, `NoMemory` where memory runs out.
+///
+/// docs/FORMATS.md, "Words".
 pub fn fetch<T: FromText, S: Shelf>(
     alloc: Global,
     shelf: &mut S,

@@ -47,7 +47,7 @@ pub record IsLawful (plan : List Phase) (rows : List Green) : Type 0 where
   pub greens : All (IsGreen plan) rows
   pub order : (k : ℕ) → k + 1 < length rows → Follows plan (row_at rows k) (row_at rows (k + 1))
 
--- the first row of a line is the green of this head, and does not end before its time is spent
+-- the first row of a timeline is the green of this head, and does not end before its time is spent
 pub record GoesOn (head : Head) (rows : List Green) : Type 0 where
   pub some : 0 < length rows
   pub phase : (row_at rows 0).phase ≡ head.phase
@@ -113,7 +113,7 @@ pub record HasRow (rows : List Green) (phase from : ℕ) : Type 0 where
   pub same_phase : (row_at rows index).phase ≡ phase
   pub same_begin : (row_at rows index).from ≡ from
 
--- another line can take the place of this one's rows from one of them on: it has no row, or some row has the phase and the
+-- another timeline can take the place of this one's rows from one of them on: it has no row, or some row has the phase and the
 -- begin of its first
 abbrev pub Joins : List Green → List Green → Type 0
 Joins old [] = Unit {0}
@@ -130,7 +130,7 @@ abbrev pub spliced : List Green → List Green → List Green
 spliced old [] = old
 spliced old (row ∷ rows) = rows_before old row.from ++ row ∷ rows
 
--- what a line keeps that is spliced from the second `now` on: it is lawful; in every second before `now` it shows the same sign,
+-- what a timeline keeps that is spliced from the second `now` on: it is lawful; in every second before `now` it shows the same sign,
 -- and every phase the same colour; it ends as the new rows do; and its rows begin by a second by which those of both begin
 pub record IsContinued (plan : List Phase) (old : List Green) (now : ℕ) (next rows : List Green) : Type 0 where
   pub lawful : IsLawful plan rows

@@ -16,8 +16,8 @@ use switch_rules::Head;
 /// to come.
 ///
 /// Where the row covers the second, its time is spent up to that second, and it is fresh within the start-up loss of
-/// its phase. Else the head stands at the begin of the row, fresh. The line is lawful for the plan and ends after the
-/// second.
+/// its phase. Else the head stands at the begin of the row, fresh. The timeline is lawful for the plan and ends after
+/// the second.
 ///
 /// docs/RULES.md, "Head at a second".
 pub fn head_at(plan: &PhasePlan, line: &Timeline, now: u32) -> Head
@@ -26,7 +26,7 @@ pub fn head_at(plan: &PhasePlan, line: &Timeline, now: u32) -> Head
     ensures value { spec.head_at plan.now line.now now ≡ Some result }
     ensures head { IsHead plan.now result }
     ensures begins_by { (n : ℕ) → now ≤ n → BeginBy n line.now → result.at ≤ n }
-    // So a line that goes on in this head can be spliced in.
+    // So a timeline that goes on in this head can be spliced in.
     ensures joins { (next : List Green) → GoesOn result next → Joins line.now next }
     ensures apart { AreApart plan.now line.now }
 {
@@ -38,7 +38,7 @@ pub fn head_at(plan: &PhasePlan, line: &Timeline, now: u32) -> Head
     head_in(plan, now, &row)
 }
 
-/// The first row that ends after a second. Where it is not the line's guess, it searches by halves.
+/// The first row that ends after a second. Where it is not the timeline's guess, it searches by halves.
 fn row_after(line: &Timeline, now: u32) -> Option<Green>
     ensures value { result ≡ row_after line.now now }
     ensures order { IsInOrder line.now }
@@ -129,7 +129,7 @@ pub fn sign_at(line: &Timeline, second: u32) -> Sign
     }
 }
 
-/// The sign of a second by which so many rows have ended.
+/// The sign of a second by which this many rows have ended.
 fn sign_by(rows: &[Green], ended: usize, second: u32) -> Sign
     requires order { IsInOrder rows.now }
     requires ended { (k : ℕ) → k < ended → (row_at rows.now k).to ≤ second }

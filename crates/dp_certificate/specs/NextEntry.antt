@@ -10,7 +10,7 @@ use Rattle.dp_certificate.specs.declared.Entry.{Entry}
 abbrev pub stage_of_next : Entry → Stage
 stage_of_next e = record { counts = e.counts; head = head_of e false; delay = e.delay }
 
--- and its bounds
+-- the bounds of what is served next after an entry, written as an entry
 pub record IsNext (p : Problem) (e : Entry) : Type 0 where
   pub counts : (k : ℕ) → slice_index e.counts k ≤ length (list_at p.lists k)
   pub phase : e.phase < 4

@@ -11,6 +11,6 @@ pub record IsSpan (entries : List Entry) (key : Entry) (low high : ℕ) : Type 0
   pub below : 0 < low → IsBefore (digits_of (entry_at entries (low - 1))) (digits_of key)
   pub here : high < length entries → ¬ IsBefore (digits_of (entry_at entries high)) (digits_of key)
 
--- its one place
+-- the one place of a key among entries
 abbrev pub IsPlace : List Entry → Entry → ℕ → Type 0
 IsPlace entries key place = IsSpan entries key place place

@@ -18,8 +18,8 @@ struct LinearCost {
     offset: u64,
 }
 
-/// What clusters cost at the least that are not yet served, for the counts that were last asked for: found anew only
-/// where other counts are asked for, or where a cluster begins or ceases to wait.
+/// What clusters of one instance cost at the least that are not yet served, for the counts that were last asked for:
+/// found anew only where other counts are asked for, or where a cluster begins or ceases to wait.
 ///
 /// docs/RULES.md, "Bounded table".
 #[derive(Clone, Copy)]
@@ -34,7 +34,9 @@ impl RemainingCost {
     ghost use Rattle.schedule_meaning.specs.Instances.{Problem, list_at};
     ghost use Rattle.dp_certificate.specs.{Limits.IsWithin, LowerBound.IsRemainingCost, NextEntry.stage_of_next, Proves.rest_of};
 
-    /// Nothing was asked for yet.
+    /// Nothing was asked for yet, of any instance.
+    ///
+    /// docs/RULES.md, "Bounded table".
     pub fn new() -> RemainingCost
         ensures { (p : Problem) → IsRemainingCost p result }
     {
@@ -49,7 +51,8 @@ impl RemainingCost {
         }
     }
 
-    /// Whether the delay of an entry, with what is left at the least, is not above a limit, where there is one.
+    /// Whether the delay of an entry, with what is left at the least, is not above a limit, where there is one. Its `at` is
+    /// at most 104,000.
     ///
     /// docs/RULES.md, "Bounded table".
     #[inline]

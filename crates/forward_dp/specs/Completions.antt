@@ -9,7 +9,7 @@ use Rattle.forward_dp.specs.Numbers.{order_number}
 use Rattle.forward_dp.specs.declared.completions.Completion.{Completion}
 use Rattle.forward_dp.specs.declared.completions.Completion.TheVariants.{Never, Complete, By}
 
--- what it costs, where something completes them
+-- what a completion costs; none where nothing completes the sequences
 abbrev pub cost_of : Completion → Option ℕ
 cost_of Never = None
 cost_of Complete = Some 0
@@ -49,7 +49,7 @@ pub record IsCheapest (p : Problem) (all : List Completion) (s : Stage) (n : ℕ
   pub begins : BeginsBelow n rest
   pub least : (other : List ℕ) (d : ℕ) → Completes p s other d → BeginsBelow n other → (cost < d) ⊎ ((cost ≡ d) × (order_number rest ≤ order_number other))
 
--- or there are none
+-- no phases complete a stage and begin below a number, and the completion is none
 pub record IsNever (p : Problem) (s : Stage) (n : ℕ) (c : Completion) : Type 0 where
   pub value : cost_of c ≡ None
   pub none : (other : List ℕ) (d : ℕ) → Completes p s other d → BeginsBelow n other → ⊥
@@ -58,7 +58,7 @@ pub record IsNever (p : Problem) (s : Stage) (n : ℕ) (c : Completion) : Type 0
 abbrev pub IsBestBelow : Problem → List Completion → Stage → ℕ → Completion → Type 0
 IsBestBelow p all s n c = IsNever p s n c ⊎ IsCheapest p all s n c
 
--- what completes it
+-- what completes a stage
 abbrev pub IsCompletion : Problem → List Completion → Stage → Completion → Type 0
 IsCompletion p all s c = IsBestBelow p all s (length p.plan) c
 

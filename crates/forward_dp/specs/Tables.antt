@@ -16,7 +16,7 @@ use Rattle.forward_dp.specs.declared.live_rows.Rows.{Rows}
 abbrev pub row_group : Row → ℕ
 row_group r = counts_number r.entry.counts * 4 + r.entry.phase
 
--- and with its times
+-- the counts, the phase and the times of a row as one number
 abbrev pub row_number : Row → ℕ
 row_number r = row_group r * 18446744073709551616 + time_of r
 
@@ -100,7 +100,7 @@ pub record CanFill (p : Problem) (limit : Option ℕ) (counts : List ℕ) (k fro
   pub known : from ≤ length rows
   pub behind : AreBelow rows k (counts_number counts) from
 
--- and are reached, by rows after the others, from rows that end at a place
+-- these counts are reached by phase k, by rows after the others, from rows that end at a place
 pub record IsFilled (p : Problem) (limit : Option ℕ) (counts : List ℕ) (k : ℕ) (old new : List Row) (end : ℕ) : Type 0 where
   pub table : IsTable p limit (counts_number counts * 4 + k + 1) new
   pub made : List Row
@@ -150,7 +150,7 @@ abbrev pub source_of : Rows → ℕ → List Row
 source_of rows zero = rows.earlier.items
 source_of rows (suc k) = cond rows.apart rows.earlier.items rows.latest.items
 
--- how many rows stand before them
+-- how many rows stand before those from which a phase is served
 abbrev pub base_of : Rows → ℕ → ℕ
 base_of rows zero = rows.gone
 base_of rows (suc k) = cond rows.apart rows.gone (rows.gone + length rows.earlier.items)
@@ -210,7 +210,7 @@ pub record IsGroupReady (p : Problem) (limit : Option ℕ) (counts : List ℕ) (
   pub can : CanFill p limit counts k from (all_rows gone rows)
   pub standing : AreStanding p k counts gone rows
 
--- and is, and perhaps further rows are dropped
+-- the group with these counts and this phase is filled, and perhaps further rows are dropped
 pub record IsGroupFilled (Holds : List Row → Type 0) (p : Problem) (limit : Option ℕ) (counts : List ℕ) (k : ℕ) (gone : List Row) (old new : Rows) (end : ℕ) : Type 0 where
   pub past : List Row
   pub held : Holds past
@@ -222,7 +222,7 @@ pub record IsCellReady (p : Problem) (limit : Option ℕ) (counts : List ℕ) (g
   pub can : CanFillCell p limit counts (all_rows gone rows) ends
   pub standing : AreStanding p 0 counts gone rows
 
--- and is, and some rows are dropped
+-- the cell with these counts is filled, and some rows are dropped
 pub record IsCellMade (Holds : List Row → Type 0) (p : Problem) (limit : Option ℕ) (counts : List ℕ) (rows : Rows) (ends : List ℕ) : Type 0 where
   pub gone : List Row
   pub held : Holds gone

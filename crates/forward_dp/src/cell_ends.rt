@@ -8,7 +8,7 @@ use std::alloc::{AllocError, Global};
 #[derive(Drop)]
 pub(crate) struct CellEnds {
     ends: Vec<usize>,
-    /// For each phase, how many cells lie between a cell and the one with one cluster of the phase less.
+    /// For each phase, how many places a cell is after the one with one cluster of the phase less.
     distances: [usize; 4],
 }
 
@@ -44,7 +44,7 @@ impl CellEnds {
         Ok(())
     }
 
-    /// Where the cell begins and ends from which a phase leads to the next one, of rows before which so many others stand.
+    /// Where the cell begins and ends from which a phase leads to the next one, of rows before which this many others stand.
     #[inline]
     pub(crate) fn before_next(&self, phase: u8, base: usize) -> (usize, usize)
         requires { phase < 4 }

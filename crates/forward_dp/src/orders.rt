@@ -2,8 +2,10 @@
 
 use std::marker::Model;
 
-/// The number of a sequence: its phases as digits to the base 4, at most 40. It stands in two halves, so that a row
+/// The number of a sequence: its phases as digits to the base 4, at most 40. It is kept in two halves, so that a row
 /// takes no more memory than its parts.
+///
+/// docs/RULES.md, "Table".
 #[derive(Debug, Clone, Copy, PartialEq, Eq)]
 pub struct Order {
     high: u64,
@@ -29,6 +31,8 @@ impl Order {
     ghost use Rattle.std.specs.Prelude.{◌≡◌, ◌+◌, ◌*◌, ◌^◌, ◌<◌, ◌≤◌, ◌↔◌, IsTrue};
 
     /// The number of the sequence of no places.
+    ///
+    /// docs/RULES.md, "Table".
     pub fn none() -> Order
         ensures { result ≡ 0 }
     {
@@ -36,6 +40,8 @@ impl Order {
     }
 
     /// The number itself.
+    ///
+    /// docs/RULES.md, "Table".
     pub fn value(&self) -> u128
         ensures { result ≡ self.now }
     {

@@ -28,7 +28,9 @@ pub(crate) fn is_no_worse(row: &Row, other: &Row) -> bool
         || row.entry.delay == other.entry.delay && row.order.is_up_to(&other.order)
 }
 
-/// The better of two rows.
+/// The better of two rows: the one with less delay, and of two with one delay the one with the first order.
+///
+/// docs/RULES.md, "Table".
 pub fn better_of(row: &Row, other: &Row) -> Row
     ensures from { (result ≡ row.now) ⊎ (result ≡ other.now) }
     ensures first { IsNoWorse result row.now.entry.delay row.now.order }

@@ -24,7 +24,7 @@ pub record HasParts (form : Form) (free : Bool) (plan : List Phase) (h : Head) (
   pub head : form.head ≡ h
   pub each : form.lists.items ≡ lists
 
--- it is out of memory
+-- the fault is out of memory
 abbrev pub IsOutOfMemory : FormFault → Type 0
 IsOutOfMemory (Line n) = ⊥
 IsOutOfMemory NoMemory = Unit {0}

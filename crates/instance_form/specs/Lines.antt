@@ -60,7 +60,7 @@ times_end Four = 32
 abbrev pub mark_end : Bool → List ℕ
 mark_end skip = mark skip ++ 10 ∷ []
 
--- the same after the times of the phase, in each version
+-- what follows the times in the line of a phase with this mark, in each version
 abbrev pub marked_end : Version → Bool → List ℕ
 marked_end One skip = 10 ∷ []
 marked_end Two skip = 32 ∷ mark_end skip

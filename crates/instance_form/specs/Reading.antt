@@ -1,4 +1,5 @@
--- No public clause names these: reading an instance's text from the front of the bytes, with the number of the first line that is none.
+-- No public clause names these: reading an instance's text from the front of the bytes, with the number of the first line that has
+-- not the form of its place.
 use Rattle.std.specs.Prelude.{◌≡◌, ℕ, zero, suc, ◌+◌, ◌-◌, Bool, true, List, [], ◌∷◌, length, sum_by, if◌then◌else◌, Result, Ok, Err, codes}
 use Rattle.std.specs.Option.{ok_or}
 pub use Rattle.foundation.specs.Results.{◌>>=◌}

@@ -14,11 +14,11 @@ has_marks plan = list_any (λ p. p.skip) plan
 abbrev pub is_loaded : Cluster → Bool
 is_loaded c = not (c.load == c.size)
 
--- some cluster of a list does
+-- some cluster of a list has another load than its size
 abbrev pub has_load : List Cluster → Bool
 has_load list = list_any is_loaded list
 
--- some cluster of these lists does
+-- some cluster of these lists has another load than its size
 abbrev pub has_loads : List (List Cluster) → Bool
 has_loads lists = list_any has_load lists
 

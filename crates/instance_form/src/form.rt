@@ -10,7 +10,7 @@ use switch_rules::{Cluster, Head};
 
 /// What the lines of an instance's text say: 2 to 4 phases, a head, and the clusters of each phase.
 ///
-/// The numbers are as they stand in the text: they may be no plan, no head and no clusters. In a text of version 4 all
+/// The numbers are as they are in the text: they may be no plan, no head and no clusters. In a text of version 4 all
 /// phases are marked, and the ring may be free.
 ///
 /// docs/FORMATS.md, "Instance text".

@@ -123,7 +123,7 @@ fn form_front(alloc: Global, line: u32, bytes: &[u8]) -> Result<(Form, u32, &[u8
 }
 
 /// The form whose text stands at the front of the bytes, the number of the line after it, and the bytes from there. The
-/// text's first line has the number `line`.
+/// text's first line has the number `line`, which is at most 2^32 less the number of bytes.
 ///
 /// A fault `Line` comes only where no text of a form that has one stands at the front.
 ///
@@ -140,7 +140,7 @@ pub fn read_front(alloc: Global, line: u32, bytes: &[u8]) -> Result<(Form, u32, 
     form_front(alloc, line, bytes)
 }
 
-/// The form whose text the bytes are.
+/// The form whose text the bytes are, fewer than 2^32 of them.
 ///
 /// A fault `Line` comes only where the bytes are the text of no form that has one.
 ///

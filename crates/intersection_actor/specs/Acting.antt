@@ -38,20 +38,20 @@ abbrev pub reading : List ℕ → Want
 reading [] = Commit
 reading (link ∷ links) = Read link
 
--- it publishes on this link, if there is one, or is done
+-- a node publishes on this link, if there is one, or is done
 abbrev pub telling : Option ℕ → Want
 telling None = Done
 telling (Some link) = Publish link
 
--- it tells the first, from this number on, of the links on which it tells a node; then it is done
+-- a node tells on the first, from this number on, of the links on which it tells another one; where there is none it is done
 abbrev pub tells_from : Net → ℕ → ℕ → Want
 tells_from net node first = telling (find (λ l. nat_le first l) (told_links net node))
 
--- it tells the link at this place, from 0, among those on which it tells a node; after the last it is done
+-- a node tells on the link at this place, from 0, among those on which it tells another one; after the last it is done
 abbrev pub told_at : Net → ℕ → ℕ → Want
 told_at net node place = telling (slice_get (told_links net node) place)
 
--- the actor of a node with this line, between two rounds: it has planned nothing
+-- the actor of a node with this timeline, between two rounds: it has planned nothing
 abbrev pub at_rest : ℕ → List Green → Acting
 at_rest node line = record {
   node = node;

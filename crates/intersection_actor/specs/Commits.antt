@@ -63,19 +63,19 @@ abbrev pub plan_by : Net → ℕ → Sensed → Option ℕ → List Phase
 plan_by net node sensed None = plan_at net node
 plan_by net node sensed (Some recall) = recalled (plan_at net node) (is_recalled net node sensed recall)
 
--- and by the network's own `recall`
+-- the phases of a node as it plans them in this round, by the network's own `recall`
 abbrev pub round_plan : Net → ℕ → Sensed → List Phase
 round_plan net node sensed = plan_by net node sensed net.run.recall
 
--- What a node has to plan, from its line, what it senses and what it has heard: the clusters of the window of the platoons that it
--- expects, from the head that its line has now, by its phases of this round.
+-- What a node has to plan, from its timeline, what it senses and what it has heard: the clusters of the window of the platoons that it
+-- expects, from the head that its timeline has now, by its phases of this round.
 pub record IsProblemOf (net : Net) (node : ℕ) (line : List Green) (sensed : Sensed) (heard : List Heard) (head : Head) (platoons : List (List Platoon)) (window : Window) (problem : Problem) : Type 0 where
   pub at : head_at (plan_at net node) line sensed.now ≡ Some head
   pub expected : AreExpected net node head sensed heard platoons
   pub taken : IsWindow platoons window
   pub is : problem ≡ record { plan = round_plan net node sensed; head = head; lists = cluster_lists window.lists }
 
--- A node's commit in a round: of what it has to plan it takes the best answer; its new line is the old one, spliced with the
+-- A node's commit in a round: of what it has to plan it takes the best answer; its new timeline is the old one, spliced with the
 -- timeline of that answer for as long as the network looks ahead.
 pub record IsCommit (net : Net) (node round : ℕ) (old : List Green) (sensed : Sensed) (heard : List Heard) (c : Commitment) : Type 0 where
   pub now : sensed.now ≡ round * net.run.step

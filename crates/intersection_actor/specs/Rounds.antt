@@ -21,7 +21,7 @@ use Rattle.intersection_actor.specs.declared.records.Want.{Want}
 use Rattle.intersection_actor.specs.declared.records.Want.TheVariants.{Read, Commit, Publish, Done}
 
 -- The actor hears in a round of the network: what it sensed is of its node, in the second at which the round begins, before its
--- line ends. What it has heard and the links that it has yet to read are, one after another, those on which its node hears, and
+-- timeline ends. What it has heard and the links that it has yet to read are, one after another, those on which its node hears, and
 -- it wants the first that is left.
 pub record IsHearing (net : Net) (a : Acting) : Type 0 where
   pub now : a.sensed.now ≡ a.round * net.run.step
@@ -63,7 +63,7 @@ pub record IsNew (net : Net) (n : ℕ) (a : Acting) : Type 0 where
   pub want : a.want ≡ Done
   pub ahead : 0 < end_of a.line
 
--- What a commit makes of an actor: its line is the new one, its plans are one record more, it keeps what it planned for what it
+-- What a commit makes of an actor: its timeline is the new one, its plans are one record more, it keeps what it planned for what it
 -- tells, and wants to tell on the first link. Of the round it keeps what it sensed and heard.
 pub record IsCommitted (net : Net) (old new : Acting) : Type 0 where
   pub made : Commitment
@@ -77,8 +77,8 @@ pub record IsCommitted (net : Net) (old new : Acting) : Type 0 where
     served = made.served;
   }
 
--- What a commit keeps: in every second before the round the new line shows the same sign as the old one, and every phase the
--- same colour. The new line ends after the begin of the next round; and the versions that were used are those of the links on
+-- What a commit keeps: in every second before the round the new timeline shows the same sign as the old one, and every phase the
+-- same colour. The new timeline ends after the begin of the next round; and the versions that were used are those of the links on
 -- which the node hears, in their order.
 pub record KeepsPast (net : Net) (old new : Acting) : Type 0 where
   pub past : (second : ℕ) → second < old.sensed.now → sign_at new.line second ≡ sign_at old.line second

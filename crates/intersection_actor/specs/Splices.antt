@@ -1,4 +1,4 @@
--- What is kept of a plan of a round. No public clause names these words.
+-- What is kept of a plan of a round. No public clause names these.
 use Rattle.std.specs.Prelude.{◌≡◌, ℕ, List, Some}
 use Rattle.phase_plan.specs.Phases.{IsRing}
 use Rattle.phase_plan.specs.declared.Phase.{Phase}
@@ -13,7 +13,7 @@ use Rattle.intersection_actor.specs.declared.records.PlanRecord.{PlanRecord}
 abbrev pub record_from : ℕ → ℕ → RoundPlan → PlanRecord
 record_from node round p = record { node = node; round = round; used = p.used; instance = p.instance; answer = p.schedule.answer }
 
--- what a node keeps of the plan besides that and the line
+-- what a node keeps of a plan besides its record and its timeline
 abbrev pub kept_of : RoundPlan → Kept
 kept_of p = record { window = p.window; phases = p.schedule.phases; served = p.schedule.served }
 

@@ -1,4 +1,4 @@
--- What the steps of a commit make. No public clause names these words.
+-- What the steps of a commit make. No public clause names these.
 use Rattle.std.specs.Prelude.{◌≡◌, ℕ, ◌+◌, ◌*◌, ◌<◌, ◌≤◌, List, All, Some}
 use Rattle.board_model.specs.declared.boards.Heard.{Heard}
 use Rattle.phase_plan.specs.declared.Phase.{Phase}
@@ -52,7 +52,7 @@ pub record IsNextLine (plan : List Phase) (head : Head) (until : ℕ) (line : Li
   pub begins : BeginBy 100000 line
   pub later : until < end_of line
 
--- what a schedule serves can stand in a timeline from this head, and its greens begin by 100,000
+-- what a schedule serves can be in a timeline from this head, and its greens begin by 100,000
 pub record AreSoonServed (plan : List Phase) (head : Head) (s : Schedule) : Type 0 where
   pub served : AreServings plan head s.phases s.served
   pub greens : All (λ (r : Served). r.green ≤ 100000) s.served
@@ -63,7 +63,7 @@ pub record HasLine (p : Problem) (until : ℕ) (s : Schedule) (line : List Green
   pub value : line ≡ line_for p.plan p.head s.answer s.served until
   pub next : IsNextLine p.plan p.head until line
 
--- what a plan of a round commits to, from this line, head and platoons
+-- what a plan of a round commits to, from this timeline, head and platoons
 abbrev pub commitment : List Green → Head → List (List Platoon) → RoundPlan → Commitment
 commitment old head platoons p = record {
   head = head;
@@ -76,7 +76,7 @@ commitment old head platoons p = record {
   line = spliced old p.next;
 }
 
--- a node's plan of a round: it is that of the node's commit, and can be told and spliced into the line
+-- a node's plan of a round: it is that of the node's commit, and can be told and spliced into the timeline
 pub record IsPlanned (net : Net) (node : ℕ) (old : List Green) (sensed : Sensed) (heard : List Heard) (p : RoundPlan) : Type 0 where
   pub head : Head
   pub platoons : List (List Platoon)

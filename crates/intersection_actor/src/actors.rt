@@ -174,7 +174,7 @@ impl Actor {
         (line, records)
     }
 
-    /// A list whose memory what it senses next may take: that of an earlier round. What stands in it does not matter.
+    /// A list whose memory what it senses next may take: that of an earlier round. What is in it does not matter.
     ///
     /// docs/RULES.md, "A node's round".
     pub fn take_spare(&mut self, alloc: Global) -> Vec<LinkSense>

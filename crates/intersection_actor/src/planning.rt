@@ -40,7 +40,7 @@ pub(crate) struct RoundPlan {
     pub(crate) used: Items<Used>,
 }
 
-/// What a node keeps of a plan besides the record and the line.
+/// What a node keeps of a plan besides the record and the timeline.
 #[derive(Drop)]
 pub(crate) struct Kept {
     pub(crate) window: Window,
@@ -48,7 +48,7 @@ pub(crate) struct Kept {
     pub(crate) served: Items<Served>,
 }
 
-/// What a node plans from its line, what it senses and what it has heard.
+/// What a node plans from its timeline, what it senses and what it has heard.
 pub(crate) fn plan_round<P: Planner>(
     alloc: Global,
     net: &Network,
@@ -258,7 +258,7 @@ fn used_versions(alloc: Global, heard: &[Heard]) -> Result<Vec<Used>, AllocError
         .collect(alloc)
 }
 
-/// Adds the record of a plan, and splices the plan's timeline into the line. Answers what else the node keeps of it.
+/// Adds the record of a plan, and splices the plan's timeline into the node's. Answers what else the node keeps of it.
 pub(crate) fn keep_plan(
     records: &mut Vec<PlanRecord>,
     line: &mut Timeline,

@@ -12,7 +12,7 @@ use road_net::{Network, Sensed};
 use std::alloc::{AllocError, Global};
 
 /// The phases of a node as it plans them in this round: where the network has `recall`, a phase with a link whose queue has
-/// stood for so long has no mark, and in a free ring with such a phase none has.
+/// stood for that many seconds or longer has no mark, and in a free ring with such a phase none has.
 ///
 /// `Err`: out of memory.
 pub(crate) fn round_plan(
@@ -51,7 +51,7 @@ fn recalled_plan(
     }
 }
 
-/// A list of them.
+/// The list of the phases of a node, where those that it recalls have no mark, and in a free ring with such a phase none has.
 fn recalled_phases(
     alloc: Global,
     net: &Network,

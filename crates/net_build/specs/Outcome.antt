@@ -1,4 +1,4 @@
--- What the steps from a draft to a network answer. No public clause names these words.
+-- What the steps from a draft to a network answer. No public clause names these.
 use Rattle.std.specs.Prelude.{◌≡◌, ℕ, ◌≤◌, IfSome, List, Option, Some, Result, Ok, Err}
 use Rattle.foundation.specs.Firsts.{FromOne}
 use Rattle.net_parts.specs.declared.faults.Section.{Section}

@@ -1,4 +1,4 @@
--- The stages from a draft to its numbers. No public clause names these words.
+-- The stages from a draft to its numbers. No public clause names these.
 use Rattle.std.specs.Prelude.{◌≡◌, ℕ, List, Option, Some}
 use Rattle.foundation.specs.Options.{◌>>=◌, each}
 use Rattle.net_parts.specs.declared.drafts.Draft.{Draft}
@@ -28,7 +28,7 @@ phase_greens_of links phases = do
   also ← each (λ p. each (number_of links) p.also) phases
   Some (serves, also)
 
--- the same of the phases of each node
+-- for each phase of each node the links that it serves, and those that it names also
 unfoldable pub greens_of : List (List ℕ) → List DraftNode → Option (List (List (List ℕ)) × List (List (List ℕ)))
 greens_of links nodes = do
   serves ← each (phases_of links) nodes

@@ -78,7 +78,7 @@ fn seconds_of(run: &Run) -> u64
     u64::from(run.rounds) * u64::from(run.step)
 }
 
-/// Whether what the run may have beside them is.
+/// Whether `age`, `hold`, `recall`, `act_step` and `rate` of the run are within their bounds, where it has them.
 fn has_options(run: &Run) -> bool
     ensures { IsTrue result ↔ HasOptions run.now }
 {
@@ -132,7 +132,7 @@ fn has_node_bounds(node: &DraftNode) -> bool
         && is_unmarked_count(node.free_ring, unmarked)
 }
 
-/// Whether so many phases of a ring may be unmarked: two or more, or none where the ring may be free.
+/// Whether this many phases of a ring may be unmarked: two or more, or none where the ring may be free.
 fn is_unmarked_count(free_ring: bool, count: usize) -> bool
     ensures { IsTrue result ↔ IsUnmarkedCount free_ring count }
 {
@@ -205,7 +205,8 @@ fn has_link_bounds(link: &DraftLink) -> bool
         && link.walk.is_none_or(|walk| has_walk_bounds(walk))
 }
 
-/// Whether the links to which a link gives way, where there are any, are as many as they may be, and its discharge then is.
+/// Whether the links to which a link gives way, where there are any, are as many as they may be, and its discharge
+/// then is within its bounds.
 fn has_yields(link: &DraftLink) -> bool
     ensures { IsTrue result ↔ IfSome link.now.yields (HasYieldBounds link.now.sat) }
 {

@@ -17,8 +17,8 @@ use std::alloc::Global;
 /// The network of a draft.
 ///
 /// The fault is out of memory, or the first that is found when the whole draft is tested for bounds, then for
-/// names that come twice, for unknown names, for the ends of links, for crowded nodes, for shares, for phases
-/// and for conflicts. It is never `NotToml` or `Shape`.
+/// names that come twice, for unknown names, for the ends of links, for crowded nodes, for shares, for phases,
+/// for further greens, for conflicts, for links that give way and for walks. It is never `NotToml` or `Shape`.
 ///
 /// docs/RULES.md, "Road network".
 pub fn build(alloc: Global, draft: Draft) -> Result<Network, NetFault>

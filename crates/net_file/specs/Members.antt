@@ -9,7 +9,7 @@ abbrev pub with_member : List ℕ → Data → Members → Members
 with_member key d no_members = member key d no_members
 with_member key d (member other e ms) = match_ordering (slice_cmp nat_cmp key other) (member key d (member other e ms)) (member other d ms) (member other e (with_member key d ms))
 
--- the same, where there is something to stand at the key
+-- the members with this at a key, where there is something to put there
 abbrev pub with_optional : List ℕ → Option Data → Members → Members
 with_optional key None ms = ms
 with_optional key (Some d) ms = with_member key d ms

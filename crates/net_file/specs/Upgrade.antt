@@ -14,7 +14,8 @@ pub record IsSmall (net : Net) : Type 0 where
   pub conflicts : length net.conflicts ≤ (limits false).conflicts
   pub rounds : net.run.rounds ≤ (limits false).rounds
 
--- what version 2 can say: no phase names a further link, no link gives way to another one or has a walk, no ring is free, and the network is not great
+-- what version 2 can say: no phase names a further link, no link gives way to another one or has a walk, no ring is free, and the
+-- network is not great
 pub record IsPlain (net : Net) : Type 0 where
   pub small : IsSmall net
   pub also : All (λ phases. All (λ links. links ≡ []) phases) net.also_links

@@ -13,30 +13,30 @@ use Rattle.net_parts.specs.declared.drafts.DraftYield.{DraftYield}
 use Rattle.net_parts.specs.declared.roads.Walk.{Walk}
 use Rattle.net_file.specs.Members.{with_member, with_optional}
 
--- a phase can stand in a file of this version: version 3, and version 2 where it names no further link
+-- a phase can be in a file of this version: version 3, and version 2 where it names no further link
 abbrev pub SaysPhase : ℕ → DraftPhase → Type 0
 SaysPhase version p = (version ≡ 3) ⊎ ((version ≡ 2) × (p.also ≡ []))
 
--- a node can, with each of its phases: its ring may be free in version 3 and in no other
+-- a node can be in a file of this version, with each of its phases: its ring may be free in version 3 and in no other
 pub record SaysNode (version : ℕ) (n : DraftNode) : Type 0 where
   pub phases : All (SaysPhase version) n.phases
   pub free_ring : n.free_ring ≡ (version == 3)
 
--- a link can: in version 3, and in version 2 where it gives way to none and has no walk
+-- a link can be in a file of this version: in version 3, and in version 2 where it gives way to none and has no walk
 abbrev pub SaysLink : ℕ → DraftLink → Type 0
 SaysLink version l = (version ≡ 3) ⊎ ((version ≡ 2) × (l.yields ≡ None) × (l.walk ≡ None))
 
--- a draft can stand in a file of this version: its counts may be those of a great network in version 3 and in no other
+-- a draft can be in a file of this version: its counts may be those of a great network in version 3 and in no other
 pub record Says (version : ℕ) (d : Draft) : Type 0 where
   pub nodes : All (SaysNode version) d.nodes
   pub links : All (SaysLink version) d.links
   pub great : d.great ≡ (version == 3)
 
--- what can stand in every file
+-- what can be in every file
 abbrev pub Always : {X : Type 0} → ℕ → X → Type 0
 Always version x = Unit {0}
 
--- the data is read as this, in each version in which that can stand, and its depth is at most `deep`
+-- the data is read as this, in each version in which that can be, and its depth is at most `deep`
 pub record IsDataOf {X : Type 0} (f : ℕ → Data → Option X) (says : ℕ → X → Type 0) (deep : ℕ) (d : Data) (x : X) : Type 0 where
   pub read : (version : ℕ) → says version x → f version d ≡ Some x
   pub depth : depth d ≤ deep
@@ -45,12 +45,12 @@ pub record IsDataOf {X : Type 0} (f : ℕ → Data → Option X) (says : ℕ →
 abbrev pub IsFilledWith : {X : Type 0} → (ℕ → Data → Option X) → (ℕ → X → Type 0) → ℕ → X → Members → Members → Type 0
 IsFilledWith f says deep x old new = old ≡ no_members → IsDataOf f says deep (table new) x
 
--- the same of each item of an array
+-- the items of an array are read as these, in each version in which these can be, and their depth is at most `deep`
 pub record AreItemsOf {X : Type 0} (f : ℕ → Data → Option X) (says : ℕ → X → Type 0) (deep : ℕ) (ds : Items) (xs : List X) : Type 0 where
   pub read : (version : ℕ) → All (says version) xs → each (f version) (list_of ds) ≡ Some xs
   pub depth : items_depth ds ≤ deep
 
--- a text is read so in every version
+-- the text that data is, in every version
 abbrev pub text_in : ℕ → Data → Option (List ℕ)
 text_in version d = as_str d
 

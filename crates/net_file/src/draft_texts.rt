@@ -9,9 +9,9 @@ use net_parts::Draft;
 use std::alloc::{AllocError, Global};
 use toml::Table;
 
-/// The network file of a draft, of a version in which it can stand: it has every mark and weight, and of what else may be absent
-/// `split` where it is true, `age`, `hold`, `recall`, `act_step`, `rate`, the ends of links, yields and walks where the draft has them, and an
-/// array where it is not empty. `Err`: out of memory.
+/// The network file of a draft, of a version in which it can be: it has every mark and weight, and of what else may be absent
+/// `split` where it is true, `age`, `hold`, `recall`, `act_step`, `rate`, the ends of links, yields and walks where the draft has
+/// them, and an array where it is not empty. `Err`: out of memory.
 ///
 /// docs/FORMATS.md, "Network file".
 pub(crate) fn draft_text(alloc: Global, draft: &Draft, version: u32) -> Result<Vec<u8>, AllocError>

@@ -58,9 +58,10 @@ fn parse_draft(alloc: Global, bytes: &[u8]) -> Result<Draft, NetFault>
 }
 
 /// The network file of a network, of the least version that can say it: 2, or 3 where a phase names a further link, a link gives way or
-/// has a walk, a ring is free, or there are more than 64 nodes, 320 links, 1024 conflicts or 600 rounds. It has every mark and weight, and of what else may be absent `split` where it is true, `age`, `hold`, `recall`,
-/// `act_step`, `rate`, the ends of links, yields and walks where the network has them, and an array where it is not empty. What is read from it is
-/// this very network, with the same value of every accessor. `Err`: out of memory.
+/// has a walk, a ring is free, or there are more than 64 nodes, 320 links, 1024 conflicts or 600 rounds. It has every mark and weight,
+/// and of what else may be absent `split` where it is true, `age`, `hold`, `recall`, `act_step`, `rate`, the ends of links, yields and
+/// walks where the network has them, and an array where it is not empty. What is read from it is this very network, with the same
+/// value of every accessor. `Err`: out of memory.
 ///
 /// docs/FORMATS.md, "Network file".
 pub fn write_network(alloc: Global, net: &Network) -> Result<Vec<u8>, AllocError>

@@ -20,7 +20,7 @@ pub(crate) trait Element: Sized {
     /// What is read from such a table, in a file of a version.
     ghost reading: { ℕ → Data → Option Self };
 
-    /// In which version it can stand.
+    /// In which version it can be.
     ghost says: { ℕ → Self → Type 0 };
 
     /// How deep such a table is, at most.

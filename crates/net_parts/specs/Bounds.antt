@@ -25,7 +25,8 @@ pub record IsActStep (step act_step : ℕ) : Type 0 where
   pub bounds : (1 ≤ act_step) × (act_step ≤ 30)
   pub whole : step % act_step ≡ 0
 
--- the numbers of a run, that a round is no longer than a planning looks ahead, and that all rounds together have at most the seconds of a day
+-- the numbers of a run are within their bounds, a round is no longer than a planning looks ahead, and all rounds together have at most
+-- the seconds of a day
 pub record IsRun (run : Run) : Type 0 where
   pub step : (1 ≤ run.step) × (run.step ≤ 30)
   pub look : (10 ≤ run.look) × (run.look ≤ most_look)

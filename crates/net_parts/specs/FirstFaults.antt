@@ -1,4 +1,4 @@
--- Which fault of a draft is the first, as docs/FORMATS.md, "Places and faults", orders them. Each part is a case, and
+-- Which fault of a draft is the first, as docs/FORMATS.md, "Places and faults", orders them. Each section is a case, and
 -- items and subs count from 1; what has none is 0.
 use Rattle.std.specs.Prelude.{◌≡◌, ℕ, List, take, All, Contains, Some, IfSome, slice_get}
 use Rattle.foundation.specs.Firsts.{IsFirstAt, IsFirstNot, FromOne}
@@ -60,7 +60,7 @@ pub record IsKnownPhase (names : List (List ℕ)) (p : DraftPhase) : Type 0 wher
   pub links : All (Contains names) p.links
   pub also : All (Contains names) p.also
 
--- all that the phases of a node use are
+-- all names that the phases of a node use are names of links
 abbrev pub IsKnownNode : List (List ℕ) → DraftNode → Type 0
 IsKnownNode links n = All (IsKnownPhase links) n.phases
 

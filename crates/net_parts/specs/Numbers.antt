@@ -69,7 +69,7 @@ abbrev pub yield_names : Option DraftYield → List (List ℕ)
 yield_names None = []
 yield_names (Some given) = given.links
 
--- its greatest discharge while one of them is busy; 0 where there is none
+-- the greatest discharge of a link while one of those to which it gives way is busy; 0 where it gives way to none
 abbrev pub yield_sat : Option DraftYield → ℕ
 yield_sat None = 0
 yield_sat (Some given) = given.sat
@@ -115,7 +115,7 @@ conflict_of links c = do
 abbrev pub node_names : Draft → List (List ℕ)
 node_names d = map (λ n. n.name) d.nodes
 
--- the names of its links, in order
+-- the names of the links of a draft, in order
 abbrev pub link_names : Draft → List (List ℕ)
 link_names d = map (λ l. l.name) d.links
 

@@ -49,7 +49,8 @@ also_links_at net n k = slice_index_or (also_at net n) k []
 abbrev pub yields_at : Net → ℕ → List ℕ
 yields_at net l = slice_index_or net.yields l []
 
--- Whether a link that ends there is green in phase k of that node: the phase is its home, or names it also. One that ends at no node never is.
+-- Whether a link that ends at this node, if it ends at one, is green in phase k there: the phase is its home, or names it also. One
+-- that ends at no node never is.
 abbrev pub is_green_to : Net → ℕ → ℕ → Option ℕ → Bool
 is_green_to net l k None = false
 is_green_to net l k (Some n) = ((link_at net l).phase == k) || has_link l (also_links_at net n k)

@@ -60,7 +60,7 @@ pub struct Draft {
     pub great: bool,
 }
 
-/// An intersection with a signal.
+/// An intersection with a signal (docs/RULES.md, "Road network").
 #[derive(Drop)]
 pub struct DraftNode {
     /// Its name, of 1 to 16 characters out of a to z, 0 to 9 and `_`.
@@ -71,7 +71,7 @@ pub struct DraftNode {
     pub free_ring: bool,
 }
 
-/// A phase of a node, and the links that it serves.
+/// A phase of a node, the links that it serves, and those that it names also (docs/RULES.md, "Links").
 #[derive(Drop)]
 pub struct DraftPhase {
     /// Its six times, in seconds, and its mark; the fields of `Phase` give their bounds.

@@ -2,7 +2,7 @@
 use foundation::threads::CrossesThreads;
 use std::alloc::{AllocError, AllocFailed};
 
-/// The parts of a network file: each is a kind of table (docs/FORMATS.md, "Places and faults").
+/// The sections of a network file: each is a kind of table (docs/FORMATS.md, "Places and faults").
 #[derive(Debug, Clone, Copy, PartialEq, Eq)]
 pub enum Section {
     /// The table of the whole file.
@@ -23,7 +23,7 @@ pub enum Section {
 
 impl CrossesThreads for Section {}
 
-/// A table of a network file. A number past the greatest u32 stands as that one.
+/// A table of a network file (docs/FORMATS.md, "Places and faults"). A number past the greatest u32 stands as that one.
 #[derive(Debug, Clone, Copy, PartialEq, Eq)]
 pub struct Place {
     /// The kind of table.
@@ -61,8 +61,8 @@ pub enum NetFault {
     /// The link ends at no node and has turns, or ends at one and its turns do not leave that node,
     /// name one link twice or have shares with a sum other than 1000.
     Shares(u32),
-    /// The link ends at a node and is not named exactly once over all phases, in a phase of that node,
-    /// or ends at no node and is named.
+    /// The link ends at a node and is not named exactly once over all phases, as one that they serve, in a phase of that node,
+    /// or ends at no node and is named so.
     Phaseless(u32),
     /// A phase names the link as a further one and is none of the node where the link ends, or names it twice.
     Also(u32),

@@ -6,7 +6,7 @@ use foundation::threads::CrossesThreads;
 
 /// The most nodes of a network.
 ///
-/// docs/FORMATS.md, "Network file", as all that follow.
+/// docs/FORMATS.md, "Network file", as all that follow and name no other section.
 pub const MOST_NODES: u32 = 1024;
 
 /// The most links of a network.
@@ -31,12 +31,18 @@ pub const MOST_ROUNDS: u32 = 17_280;
 pub const MOST_SECONDS: u32 = 86_400;
 
 /// A second in a file of a network may be any below this, however short its run is.
+///
+/// docs/FORMATS.md, "Arrivals file".
 pub const SMALL_SECONDS: u32 = 18_000;
 
 /// The most that enters a network in all, in thousandths of a vehicle.
+///
+/// docs/RULES.md, "Arrivals".
 pub const MOST_OF_ALL: u32 = 2_000_000_000;
 
 /// How many nodes, links, conflicts and rounds there may be.
+///
+/// docs/FORMATS.md, "Network file".
 #[derive(Debug, Clone, Copy, PartialEq, Eq)]
 pub struct Limits {
     /// The most nodes.
@@ -54,6 +60,8 @@ impl CrossesThreads for Limits {}
 impl Limits {
     /// The limits of a great network: 1024 nodes, 8192 links, 32,768 conflicts and 17,280 rounds; and of one that is not: 64, 320,
     /// 1024 and 600.
+    ///
+    /// docs/FORMATS.md, "Network file".
     pub fn of(great: bool) -> Limits
         ensures { result ≡ limits great }
     {

@@ -27,6 +27,8 @@ impl Names {
     ghost use Rattle.net_parts.specs.Numbers.{number_of};
 
     /// No names.
+    ///
+    /// docs/RULES.md, "Road network".
     pub fn new(alloc: Global) -> Names
         ensures { result ≡ [] }
     {
@@ -36,6 +38,8 @@ impl Names {
     }
 
     /// How many names there are.
+    ///
+    /// docs/RULES.md, "Road network".
     pub fn len(&self) -> u32
         ensures { result ≡ length self.now }
     {
@@ -43,6 +47,8 @@ impl Names {
     }
 
     /// The name with this number.
+    ///
+    /// docs/RULES.md, "Road network".
     pub fn name(&self, number: u32) -> &str
         requires { number < length self.now }
         ensures { result.now ≡ slice_index_or self.now number [] }
@@ -50,7 +56,9 @@ impl Names {
         self.set.as_slice()[number as usize].as_str()
     }
 
-    /// The number of a name.
+    /// The number of a name; none where it is not among these.
+    ///
+    /// docs/RULES.md, "Road network".
     pub fn find(&self, name: &str) -> Option<u32>
         ensures { result ≡ number_of self.now name.now }
     {
@@ -62,6 +70,8 @@ impl Names {
 
     /// Adds a name at the end; `false` where it is there already. `Err`: out of
     /// memory; the names stay as they were.
+    ///
+    /// docs/RULES.md, "Road network".
     pub fn add(&mut self, alloc: Global, name: &str) -> Result<bool, AllocError>
         requires { length self.old + 1 < 2 ^ 32 }
         ensures names { IfOk result (λ added. self.new ≡ (if added then self.old ++ name.now ∷ [] else self.old)) }

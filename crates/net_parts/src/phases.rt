@@ -4,7 +4,7 @@ ghost use Rattle.net_parts.specs.Numbers.{has_link};
 
 use foundation::items::Items;
 
-/// The first phase that names the link.
+/// The first phase that names the link; none where none does.
 ///
 /// docs/RULES.md, "Links".
 pub fn phase_with(phases: &[Items<u32>], link: u32) -> Option<u8>

@@ -55,7 +55,7 @@ IsFaultWithin top Conflict item sub =
     IsSome (run_of top.run) × IsSome (each (node_of top.version) top.nodes) × IsSome (each (link_of top.version) top.links)
     × (sub ≡ 0) × IsFirstUnread conflict_of top.conflicts item
 
--- The first fault of the table of the whole file, at the place with this part, item and sub: of its own form, or else of
+-- The first fault of the table of the whole file, at the place with this section, item and sub: of its own form, or else of
 -- the tables within it.
 abbrev pub IsShapeFault : Members → Section → ℕ → ℕ → Type 0
 IsShapeFault ms Top item sub = (item ≡ 0) × (sub ≡ 0) × (top_form ms ≡ None)

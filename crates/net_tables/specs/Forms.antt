@@ -1,4 +1,4 @@
--- What the forms of tables stand for. No public clause names these words.
+-- What the forms of tables stand for. No public clause names these.
 use Rattle.std.specs.Prelude.{ℕ, List, map}
 use Rattle.toml.specs.Data.{Data}
 use Rattle.toml.specs.View.{view}

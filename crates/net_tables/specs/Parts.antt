@@ -1,4 +1,4 @@
--- The keys of a table in the groups in which the reader takes them. No public clause names these words.
+-- The keys of a table in the groups in which the reader takes them. No public clause names these.
 use Rattle.std.specs.Prelude.{codes, ℕ, false, List, Option, Some, is_some}
 use Rattle.toml.specs.Data.{Members}
 use Rattle.foundation.specs.Options.{◌>>=◌}

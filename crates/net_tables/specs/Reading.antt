@@ -1,4 +1,4 @@
--- The course of the reader: which element of an array is at fault, and at which place. No public clause names these words.
+-- The course of the reader: which element of an array is at fault, and at which place. No public clause names these.
 use Rattle.std.specs.Prelude.{◌≡◌, ℕ, List, Option, None, IsSome}
 use Rattle.toml.specs.Data.{Data}
 use Rattle.foundation.specs.Firsts.{IsFirstAt}
@@ -17,18 +17,18 @@ pub record IsFaultAmong {Y : Type 0} (f : Data → Option Y) (at_fault : ℕ →
 abbrev pub IsNodeAtFault : Option ℕ → ℕ → ℕ → Data → Place → Type 0
 IsNodeAtFault version item number d named = (named.item ≡ number) × IsNodeFault version d named.part named.sub
 
--- the link with this number, or one of its turns
+-- the link with this number is at fault, or one of its turns
 abbrev pub IsLinkAtFault : Option ℕ → ℕ → ℕ → Data → Place → Type 0
 IsLinkAtFault version item number d named = (named.item ≡ number) × IsLinkFault version d named.part named.sub
 
--- the phase with this number, of the node with this item
+-- the phase with this number, of the node with this item, is at fault
 abbrev pub IsPhaseAtFault : Option ℕ → ℕ → ℕ → Data → Place → Type 0
 IsPhaseAtFault version item number d named = (named ≡ record { part = Phase; item = item; sub = number }) × (phase_of version d ≡ None)
 
--- the turn with this number, of the link with this item
+-- the turn with this number, of the link with this item, is at fault
 abbrev pub IsTurnAtFault : Option ℕ → ℕ → ℕ → Data → Place → Type 0
 IsTurnAtFault version item number d named = (named ≡ record { part = Turn; item = item; sub = number }) × (turn_of d ≡ None)
 
--- the conflict with this number
+-- the conflict with this number is at fault
 abbrev pub IsConflictAtFault : Option ℕ → ℕ → ℕ → Data → Place → Type 0
 IsConflictAtFault version item number d named = (named ≡ record { part = Conflict; item = number; sub = 0 }) × (conflict_of d ≡ None)

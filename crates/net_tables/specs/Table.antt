@@ -76,7 +76,7 @@ abbrev pub flag_if : Bool → Option Data → Option Bool
 flag_if complete None = if complete then None else Some false
 flag_if complete (Some d) = as_bool d
 
--- the truth value at a key that may be absent so
+-- the truth value at a key that may be absent where the file need not be complete; an absent one is false
 unfoldable pub flag_at : Bool → List ℕ → Members → Option Bool
 flag_at complete key ms = flag_if complete (get_member key ms)
 
@@ -87,7 +87,7 @@ weight_if complete (Some d) = do
   z ← as_integer d
   Some (field_of z)
 
--- the weight at a key that may be absent so
+-- the weight at a key that may be absent where the file need not be complete; an absent one is 1
 unfoldable pub weight_at : Bool → List ℕ → Members → Option ℕ
 weight_at complete key ms = weight_if complete (get_member key ms)
 
@@ -145,7 +145,8 @@ run_of ms = do
   rate ← optional_number_at (codes "rate") ms
   Some (record { step = step; look = look; gap = gap; rounds = rounds; split = split; age = age; hold = hold; recall = recall; act_step = act_step; rate = rate })
 
--- whether a file says version 3, and so may name further greens of phases, yields and walks, have free rings and the counts of a great network
+-- whether a file says version 3, and so may name further greens of phases, yields and walks, have free rings and the counts of a
+-- great network
 abbrev pub is_third : Option ℕ → Bool
 is_third None = false
 is_third (Some version) = version == 3
@@ -158,7 +159,7 @@ phase_keys = codes "least" ∷ codes "greatest" ∷ codes "yellow" ∷ codes "cl
 unfoldable pub phase_keys_in : Option ℕ → List (List ℕ)
 phase_keys_in version = if is_third version then codes "also" ∷ phase_keys else phase_keys
 
--- a phase as it stands in the file, the names of its links not yet read
+-- a phase as it is in the file, the names of its links not yet read
 pub record PhaseForm : Type 0 where
   pub phase : Phase
   pub links : List Data
@@ -188,7 +189,7 @@ phase_of version d = do
   also ← each as_str form.also
   Some (record { phase = form.phase; links = links; also = also })
 
--- a node as it stands in the file, its phases not yet read
+-- a node as it is in the file, its phases not yet read
 pub record NodeForm : Type 0 where
   pub name : List ℕ
   pub phases : List Data
@@ -218,7 +219,7 @@ turn_of d = do
   share ← number_at (codes "share") ms
   Some (record { exit = exit; share = share })
 
--- a link as it stands in the file, its turns not yet read
+-- a link as it is in the file, its turns not yet read
 pub record LinkForm : Type 0 where
   pub name : List ℕ
   pub from : Option (List ℕ)

@@ -161,7 +161,8 @@ fn phase_times(table: &Table, version: Option<u32>) -> Option<Phase>
     })
 }
 
-/// Whether a file of this version may name further greens of phases, yields and walks, and have free rings.
+/// Whether a file of this version may name further greens of phases, yields and walks, and have free rings and the counts of a
+/// great network.
 pub(crate) fn is_third(version: Option<u32>) -> bool
     ensures { result ≡ spec.is_third version }
 {

@@ -72,7 +72,7 @@ fn shape(part: Section, item: u32, sub: u32) -> NetFault
 /// Which table of an array is read, and in which file.
 #[derive(Clone, Copy)]
 struct Spot {
-    /// The item of the node or link with the array; 0 where the array stands in the table of the whole file.
+    /// The item of the node or link with the array; 0 where the array is in the table of the whole file.
     item: u32,
     /// The number of the table in the array, from 1.
     number: u32,
@@ -80,7 +80,7 @@ struct Spot {
     version: Option<u32>,
 }
 
-/// A table that stands in an array of the file.
+/// A table that is in an array of the file.
 trait Element: Sized + Drop {
     /// What the table stands for, in a file of this version.
     ghost reading: { Option ℕ → Data → Option Self };

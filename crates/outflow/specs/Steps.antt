@@ -1,4 +1,4 @@
--- What the steps of filling in a forecast make. No public clause names these words.
+-- What the steps of filling in a forecast make. No public clause names these.
 use Rattle.std.specs.Prelude.{◌≡◌, ℕ, ◌+◌, ◌<◌, ◌≤◌, List, length, slice_index}
 use Rattle.net_parts.specs.Limits.{most_look}
 use Rattle.net_parts.specs.Numbers.{Net}

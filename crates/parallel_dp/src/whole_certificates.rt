@@ -19,8 +19,8 @@ use std::sync::ledger::{Blank, Ledger};
 use std::thread::Threads;
 
 /// The whole table with the best answer, as `forward_dp::certify` makes it, layer by layer: each layer is extended from
-/// the one before in pieces of this width, in threads, and the pieces are joined. The width changes nothing of the
-/// certificate.
+/// the one before in pieces of this width, 1 to 4096 entries, in threads, and the pieces are joined. The width changes
+/// nothing of the certificate.
 ///
 /// It returns, also where no thread can be started: the calling thread then does the work. `Err`: out of memory.
 ///

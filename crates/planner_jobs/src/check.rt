@@ -38,7 +38,7 @@ fn verdict_in_ledger<L: Ledger>(c: &Certificate, blank: Blank) -> Verdict
     cert_checker::check(c, &mut steps)
 }
 
-/// The verdict on a certificate, as it is written, whatever file it stands in.
+/// The verdict on a certificate, as it is written, whatever file it is in.
 fn verdict(alloc: Global, c: &Certificate) -> Result<Made, AllocError>
     ensures { (file : List ℕ) → IfOk result (λ made. IsMadeOf (Check file) made (c.now, tt)) }
 {

@@ -24,9 +24,10 @@ pub record IsHomed (net : Net) : Type 0 where
   pub phases : ArePhased net.links net.phase_links
 
 -- Why the parts of a network are not joined as they have to be: the first link without its ends; where all have them, the
--- first node with more links than it may have; else the first link whose turns are not as they must; else the first that phases do not name as
--- they must; else the first that phases do not name also as they may; else the first conflict that can be none; else the first link that gives way
--- as it may not; else the first with a walk that ends at no node, or has a green whose least seconds are fewer than those of its walk and `cross`.
+-- first node with more links than it may have; else the first link whose turns are not as they must; else the first that phases do not
+-- name as they must; else the first that phases do not name also as they may; else the first conflict that can be none; else the first
+-- link that gives way as it may not; else the first with a walk that ends at no node, or has a green whose least seconds are fewer than
+-- those of its walk and `cross`.
 abbrev pub IsJoinFault : Net → NetFault → Type 0
 IsJoinFault net NoMemory = Unit {0}
 IsJoinFault net (Ends l) = IsFirstWithout (HasEndsAt net.links) (length net.links) l

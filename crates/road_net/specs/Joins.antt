@@ -48,7 +48,7 @@ pub record AreLinksAt (side : Side) (links : List Link) (node : ℕ) (numbers : 
 abbrev pub HasFewEntries : List Link → ℕ → Type 0
 HasFewEntries links node = length (links_of_node To links node) ≤ 16
 
--- and at each of this number of nodes
+-- at most 16 links end at each of this number of nodes
 abbrev pub HaveFewEntries : List Link → ℕ → Type 0
 HaveFewEntries links nodes = (node : ℕ) → node < nodes → HasFewEntries links node
 
@@ -62,7 +62,7 @@ pub record IsShareTable (links : List Link) (turns : List Turn) (node : ℕ) : T
   pub differ : AllPairs (λ s t. s.exit ≢ t.exit) turns
   pub whole : sum_by share_of turns ≡ 1000
 
--- a link that ends at no node has no turns
+-- the turns of a link are as they must be: where it ends at a node they are a table of its shares, and else there are none
 abbrev pub HasShares : List Link → List Turn → Option ℕ → Type 0
 HasShares links turns to = MatchOption to (turns ≡ []) (IsShareTable links turns)
 
@@ -82,7 +82,7 @@ IsPhased phase_links link to = MatchOption to (times_named phase_links link ≡ 
 abbrev pub AreNeverBoth : Net → ℕ → ℕ → Type 0
 AreNeverBoth net a b = (k : ℕ) → IsTrue (is_green_in net a k) → IsTrue (is_green_in net b k) → ⊥
 
--- the links of a conflict end at one node, and have no green in common
+-- the links of a conflict differ, end at one node, and have no green in common
 pub record IsConflict (net : Net) (c : ℕ × ℕ) : Type 0 where
   pub differ : c.0 ≢ c.1
   pub ends : IsSome (link_at net.links c.0).to
@@ -94,7 +94,7 @@ pub record IsFurther (net : Net) (l n k : ℕ) : Type 0 where
   pub ends : (link_at net.links l).to ≡ Some n
   pub once : count_by (λ m. m == l) (phase_links_at net n k) + count_by (λ m. m == l) (also_links_at net n k) ≡ 1
 
--- the phases that name the link with this number also are such phases
+-- each phase that names the link with this number also is one of the node where it ends, and names it once
 abbrev pub IsAlso : Net → ℕ → Type 0
 IsAlso net l = (n k : ℕ) → IsTrue (has_link l (also_links_at net n k)) → IsFurther net l n k
 
@@ -104,7 +104,7 @@ pub record GivesWay (net : Net) (l other : ℕ) : Type 0 where
   pub node : (link_at net.links other).to ≡ (link_at net.links l).to
   pub shared : ¬ AreNeverBoth net l other
 
--- the link with this number gives way to such links, and twice to none
+-- the link with this number gives way only to links to which it may, and twice to none
 pub record IsYield (net : Net) (l : ℕ) : Type 0 where
   pub each : All (GivesWay net l) (yields_at net l)
   pub differ : AllPairs (λ a b. a ≢ b) (yields_at net l)
@@ -129,7 +129,7 @@ HasEndsAt links l = HasEnds (link_at links l)
 abbrev pub HasSharesAt : List Link → List (List Turn) → ℕ → Type 0
 HasSharesAt links turns l = HasShares links (slice_index_or turns l []) (link_at links l).to
 
--- phases name it as they must
+-- phases name the link with this number as they must
 abbrev pub IsPhasedAt : List Link → List (List (List ℕ)) → ℕ → Type 0
 IsPhasedAt links phase_links l = IsPhased phase_links l (link_at links l).to
 
@@ -141,7 +141,7 @@ IsConflictAt net place = IsConflict net (conflict_at net.conflicts place)
 abbrev pub AreShared : List Link → List (List Turn) → Type 0
 AreShared links turns = EachIndex links (HasSharesAt links turns)
 
--- and phases name each as they must
+-- phases name each link as they must
 abbrev pub ArePhased : List Link → List (List (List ℕ)) → Type 0
 ArePhased links phase_links = EachIndex links (IsPhasedAt links phase_links)
 

@@ -1,4 +1,4 @@
--- What the fields of the code stand for, and what its steps answer. No public clause names these words.
+-- What the fields of the code stand for, and what its steps answer. No public clause names these.
 use Rattle.std.specs.Prelude.{◌≡◌, ℕ, ◌<◌, ◌≤◌, ◌==◌, if◌then◌else◌, List, [], ◌∷◌, ◌++◌, Option, Result, Ok, Err, length, count_by, slice_index_or}
 use Rattle.foundation.specs.Firsts.{IsFirstWithout}
 use Rattle.net_parts.specs.declared.faults.NetFault.{NetFault}

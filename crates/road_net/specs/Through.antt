@@ -9,7 +9,7 @@ use Rattle.net_parts.specs.Outline.{also_at, link_at}
 abbrev pub may_stay : Net → ℕ → Bool
 may_stay net l = is_none (link_at net l).walk
 
--- whether one of these links may
+-- whether one of these links has no walk
 abbrev pub names_staying : Net → List ℕ → Bool
 names_staying net links = list_any (may_stay net) links
 

@@ -199,7 +199,7 @@ fn is_phased(times: usize, phase_links: &[Items<Items<u32>>], link: u32, to: Opt
     }
 }
 
-/// Tests that the links of each conflict end at one node and have no green in common. The first conflict whose links do
+/// Tests that the links of each conflict differ, end at one node and have no green in common. The first conflict whose links do
 /// not is named.
 pub(crate) fn check_conflicts(parts: &Parts) -> Result<(), NetFault>
     requires { IsOutline (net_of parts.now) }
@@ -215,7 +215,7 @@ pub(crate) fn check_conflicts(parts: &Parts) -> Result<(), NetFault>
     Ok(())
 }
 
-/// Whether the two links may stand in a conflict.
+/// Whether the two links may be a conflict.
 fn can_conflict(parts: &Parts, a: u32, b: u32) -> bool
     requires outline { IsOutline (net_of parts.now) }
     requires first { a < length parts.now.link_names }

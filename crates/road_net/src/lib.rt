@@ -58,6 +58,8 @@ impl Network {
     ghost use Rattle.road_net.specs.{Joins.split_of, Joins.AreLinksAt, Joins.AreParts, Network.IsNetwork, Network.entry_links, Network.exit_links, Network.AreApart, Through.is_through, Totals.total};
 
     /// The parts that it was made of.
+    ///
+    /// docs/RULES.md, "Road network".
     pub fn parts(&self) -> &Parts
         ensures value { net_of result.now ≡ self.now }
         ensures network { IsNetwork self.now }
@@ -87,6 +89,8 @@ impl Network {
     }
 
     /// How many nodes there are, 1 to 1024.
+    ///
+    /// docs/RULES.md, "Road network".
     pub fn nodes(&self) -> u32
         ensures value { result ≡ length self.now.node_names }
         ensures network { IsNetwork self.now }
@@ -95,6 +99,8 @@ impl Network {
     }
 
     /// How many links there are, 1 to 8192.
+    ///
+    /// docs/RULES.md, "Road network".
     pub fn links(&self) -> u32
         ensures value { result ≡ length self.now.link_names }
         ensures network { IsNetwork self.now }
@@ -103,6 +109,8 @@ impl Network {
     }
 
     /// The phases of a node.
+    ///
+    /// docs/RULES.md, "Phases".
     pub fn plan(&self, node: u32) -> &PhasePlan
         requires { node < length self.now.node_names }
         ensures value { result.now ≡ plan_at self.now node }
@@ -185,7 +193,9 @@ impl Network {
         self.exit_links[node as usize].as_slice()
     }
 
-    /// A link: its ends, travel time, greatest discharge and phase.
+    /// A link: its ends, travel time, greatest discharge, also while it gives way, weight, home and walk.
+    ///
+    /// docs/RULES.md, "Links".
     pub fn link(&self, l: u32) -> Link
         requires { l < length self.now.link_names }
         ensures value { result ≡ link_at self.now l }
@@ -247,6 +257,8 @@ impl Network {
     }
 
     /// The name of a node.
+    ///
+    /// docs/RULES.md, "Road network".
     pub fn node_name(&self, n: u32) -> &str
         requires { n < length self.now.node_names }
         ensures value { result.now ≡ node_name_at self.now n }
@@ -256,6 +268,8 @@ impl Network {
     }
 
     /// The name of a link.
+    ///
+    /// docs/RULES.md, "Road network".
     pub fn link_name(&self, l: u32) -> &str
         requires { l < length self.now.link_names }
         ensures value { result.now ≡ link_name_at self.now l }
@@ -265,6 +279,8 @@ impl Network {
     }
 
     /// The number of the node with this name; `None` exactly where no node has it.
+    ///
+    /// docs/RULES.md, "Road network".
     pub fn find_node(&self, name: &str) -> Option<u32>
         ensures value { result ≡ number_of self.now.node_names name.now }
         ensures none { IsNone result ↔ ¬ Contains self.now.node_names name.now }
@@ -276,6 +292,8 @@ impl Network {
     }
 
     /// The number of the link with this name; `None` exactly where no link has it.
+    ///
+    /// docs/RULES.md, "Road network".
     pub fn find_link(&self, name: &str) -> Option<u32>
         ensures value { result ≡ number_of self.now.link_names name.now }
         ensures none { IsNone result ↔ ¬ Contains self.now.link_names name.now }

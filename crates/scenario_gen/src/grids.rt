@@ -14,7 +14,8 @@ use road_net::{NetFault, Network};
 use std::alloc::{AllocError, Global};
 
 /// A square grid, made from a number: a network with `side` nodes a side, 2 to 8, for `rounds` rounds, 1 to 600, and what
-/// enters it, which the words of a generator decide that the number starts. A number, a side and rounds give one grid. `Err`: out of memory.
+/// enters it, which the words of a generator decide that the number starts. A number, a side and rounds give one grid. `Err`: out of
+/// memory.
 ///
 /// docs/RULES.md, "Grids".
 pub fn grid(

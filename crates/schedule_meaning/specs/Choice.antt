@@ -1,4 +1,4 @@
--- No public clause names these: what the plain planner keeps on its way; what it promises stands in Best.
+-- No public clause names these: what the plain planner keeps on its way; what it promises is in Best.
 use Rattle.std.specs.Prelude.{ℕ, nat_lt, Bool, true, if◌then◌else◌, List, ◌++◌, Option, Some, None, fold}
 use Rattle.schedule_meaning.specs.Instances.{Problem}
 use Rattle.schedule_meaning.specs.Timing.{delay_of}

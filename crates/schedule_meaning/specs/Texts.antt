@@ -12,7 +12,7 @@ use Rattle.schedule_meaning.specs.Faults.{IsInstanceFault}
 use Rattle.schedule_meaning.specs.declared.texts.TextFault.{TextFault}
 use Rattle.schedule_meaning.specs.declared.texts.TextFault.TheVariants.{Line, Plan, Instance, NoMemory}
 
--- it is out of memory
+-- the fault is out of memory
 abbrev pub IsOutOfMemory : TextFault → Type 0
 IsOutOfMemory (Line n) = ⊥
 IsOutOfMemory (Plan fault) = ⊥
@@ -39,7 +39,7 @@ abbrev pub IsPlanWhere : Bool → List Phase → Type 0
 IsPlanWhere true plan = IsRing plan
 IsPlanWhere false plan = IsPlan plan
 
--- why these phases are none
+-- why these phases are no plan, whose ring may be free where this says so, and nowhere else
 abbrev pub IsPlanFaultWhere : Bool → List Phase → PlanFault → Type 0
 IsPlanFaultWhere true plan fault = IsRingFault plan fault
 IsPlanFaultWhere false plan fault = IsPlanFault plan fault

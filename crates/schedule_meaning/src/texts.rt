@@ -69,6 +69,8 @@ pub fn read_instance(alloc: Global, bytes: &[u8]) -> Result<Instance, TextFault>
 
 /// The plan of these phases, of which there are fewer than 2^32. Its ring may be free where `free_ring` says so.
 ///
+/// The faults are those of `PhasePlan::new_or_free` there, and else those of `PhasePlan::new`.
+///
 /// docs/RULES.md, "Phases".
 pub fn plan_where(free_ring: bool, phases: Vec<Phase>) -> Result<PhasePlan, PlanFault>
     requires { vec_len phases < 2 ^ 32 }

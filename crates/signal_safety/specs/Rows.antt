@@ -7,7 +7,7 @@ use Rattle.net_parts.specs.Outline.{is_green_in, link_at, plan_at}
 use Rattle.phase_plan.specs.Phases.{phase_at}
 use Rattle.phase_plan.specs.declared.Phase.{Phase}
 
--- a green of a link: a row of one of its phases in the line of the node at its end, where `lines node` is the line of a node
+-- a green of a link: a row of one of its phases in the timeline of the node at its end, where `lines node` is that of a node
 pub record IsGreenOf (net : Net) (lines : ℕ → List Green) (link : ℕ) (row : Green) : Type 0 where
   pub ends : MatchOption (link_at net link).to ⊥ (λ node. Contains (lines node) row)
   pub phase : IsTrue (is_green_in net link row.phase)

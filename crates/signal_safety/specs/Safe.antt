@@ -14,13 +14,14 @@ use Rattle.phase_plan.specs.declared.Phase.{Phase}
 abbrev pub is_green_at : Net → (ℕ → List Green) → ℕ → ℕ → Bool
 is_green_at net lines link second = option_map_or (λ node. is_on_in (is_green_in net link) (walk_at net link) second (sign_at (lines node) second)) (link_at net link).to false
 
--- the yellow and all-red that follow the greens of a sign: those of the phase that is on, or to which a change leads; 0 where nothing is shown
+-- the yellow and all-red that follow the greens of a sign: those of the phase that is on, or to which a change leads; 0 where nothing
+-- is shown
 abbrev pub clearance_after : List Phase → Sign → ℕ
 clearance_after plan (signs.On phase since) = (phase_at plan phase).yellow + (phase_at plan phase).clear
 clearance_after plan (signs.Change from to) = (phase_at plan to).yellow + (phase_at plan to).clear
 clearance_after plan signs.Dark = 0
 
--- the same of a second in which a link is green, by the node at its end
+-- the yellow and all-red that follow the greens of the sign that the node at a link's end shows in a second; 0 where it ends at none
 abbrev pub clearance_at : Net → (ℕ → List Green) → ℕ → ℕ → ℕ
 clearance_at net lines link second = option_map_or (λ node. clearance_after (plan_at net node) (sign_at (lines node) second)) (link_at net link).to 0
 

@@ -15,7 +15,7 @@ pub const LATEST_ARRIVAL: u32 = 100_000;
 /// docs/RULES.md, "Clusters".
 pub const GREATEST_SIZE: u32 = 20_000_000;
 
-/// The greatest weight of a link, by which a cluster's load is at most so many times its size.
+/// The greatest weight of a link; the load of a cluster is at most this many times its size.
 ///
 /// docs/RULES.md, "Clusters".
 pub const GREATEST_WEIGHT: u32 = 20;

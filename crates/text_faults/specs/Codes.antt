@@ -65,7 +65,7 @@ cert_code (text.Cert (cert.Entry n)) = codes "entry " ++ decimal n
 cert_code (text.Cert (cert.Order n)) = codes "entry order " ++ decimal n
 cert_code text.NoMemory = []
 
--- the name of a part of a network's file
+-- the name of a section of a network's file
 abbrev pub part_name : Section → List ℕ
 part_name part.Top = codes "top"
 part_name part.Run = codes "run"
@@ -75,7 +75,7 @@ part_name part.Link = codes "link"
 part_name part.Turn = codes "turn"
 part_name part.Conflict = codes "conflict"
 
--- a place of a network's file: the part, the number of the node, link or conflict, and that of the phase or turn within it
+-- a place of a network's file: the section, the number of the node, link or conflict, and that of the phase or turn within it
 abbrev pub place_text : Place → List ℕ
 place_text place = part_name place.part ++ 32 ∷ decimal place.item ++ 32 ∷ decimal place.sub
 

@@ -48,6 +48,8 @@ pub enum BadText {
 }
 
 /// Appends the code of what is wrong with a text to a line. `Err`: out of memory.
+///
+/// docs/FORMATS.md, "Codes of a bad text".
 pub fn push_code(line: &mut Vec<u8>, why: BadText) -> Result<(), AllocError>
     ensures { OnOk result (line.new.items ≡ line.old.items ++ code_of why) }
 {
@@ -161,7 +163,7 @@ fn push_place(line: &mut Vec<u8>, word: &[u8], place: Place) -> Result<(), Alloc
     push_two(line, b" ", u64::from(place.item), u64::from(place.sub))
 }
 
-// The name of a part of a network's file.
+// The name of a section of a network's file.
 fn part_name(part: Section) -> &'static [u8]
     ensures { result.now ≡ part_name part }
 {

@@ -6,6 +6,8 @@ use std::alloc::AllocError;
 use text_lines::push_number;
 
 /// Appends a word and a number to a text. `Err`: out of memory.
+///
+/// docs/FORMATS.md, "Numbers and lines".
 pub fn push_one(text: &mut Vec<u8>, word: &[u8], number: u64) -> Result<(), AllocError>
     ensures { OnOk result (text.new.items ≡ text.old.items ++ (word.now ++ decimal number)) }
 {
@@ -14,6 +16,8 @@ pub fn push_one(text: &mut Vec<u8>, word: &[u8], number: u64) -> Result<(), Allo
 }
 
 /// Appends a word and two numbers, with a space between them, to a text. `Err`: out of memory.
+///
+/// docs/FORMATS.md, "Numbers and lines".
 pub fn push_two(text: &mut Vec<u8>, word: &[u8], first: u64, second: u64) -> Result<(), AllocError>
     ensures { OnOk result (text.new.items ≡ text.old.items ++ (word.now ++ decimal first ++ 32 ∷ decimal second)) }
 {

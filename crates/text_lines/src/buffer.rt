@@ -7,6 +7,8 @@ use std::marker::Model;
 const CAPACITY: usize = 160;
 
 /// A line of at most 160 bytes that grows at its front. Contracts see its bytes.
+///
+/// docs/FORMATS.md, "Numbers and lines".
 #[derive(Drop)]
 pub struct Line {
     bytes: [u8; CAPACITY],
@@ -28,6 +30,8 @@ impl Line {
     ghost use Rattle.std.specs.Fmt.{decimal};
 
     /// An empty line.
+    ///
+    /// docs/FORMATS.md, "Numbers and lines".
     pub fn new() -> Line
         ensures { result ≡ [] }
     {
@@ -38,6 +42,8 @@ impl Line {
     }
 
     /// Takes all bytes away.
+    ///
+    /// docs/FORMATS.md, "Numbers and lines".
     #[inline]
     pub fn clear(&mut self)
         ensures { self.new ≡ [] }
@@ -46,6 +52,8 @@ impl Line {
     }
 
     /// Puts one byte in front.
+    ///
+    /// docs/FORMATS.md, "Numbers and lines".
     #[inline]
     pub fn put_byte(&mut self, byte: u8)
         requires { length self.old < 160 }
@@ -56,6 +64,8 @@ impl Line {
     }
 
     /// Puts the digits of a number in front.
+    ///
+    /// docs/FORMATS.md, "Numbers and lines".
     #[inline]
     pub fn put_number(&mut self, number: u64)
         requires { length self.old + length (decimal number) ≤ 160 }
@@ -65,6 +75,8 @@ impl Line {
     }
 
     /// Puts a space and the digits of a number in front.
+    ///
+    /// docs/FORMATS.md, "Numbers and lines".
     #[inline]
     pub fn put_spaced(&mut self, number: u64)
         requires { length self.old + length (decimal number) < 160 }
@@ -75,6 +87,8 @@ impl Line {
     }
 
     /// Puts a word in front.
+    ///
+    /// docs/FORMATS.md, "Numbers and lines".
     #[inline]
     pub fn put_word(&mut self, word: &[u8])
         requires { length self.old + length word.now ≤ 160 }
@@ -86,6 +100,8 @@ impl Line {
     }
 
     /// The bytes, from the first to the last.
+    ///
+    /// docs/FORMATS.md, "Numbers and lines".
     #[inline]
     pub fn as_bytes(&self) -> &[u8]
         ensures { result.now ≡ self.now }

@@ -28,19 +28,19 @@ longest_wait plan intergreen k = longest_red plan intergreen k + (phase_at plan 
 abbrev pub greatest_intergreen : List Phase → (ℕ → ℕ) → ℕ
 greatest_intergreen plan intergreen = fold (λ most k. max most (intergreen k)) 0 (range_with_len 0 (length plan))
 
--- The longest time that a queue of phase k waits until something leaves it, where so many seconds may pass until a round begins from
+-- The longest time that a queue of phase k waits until something leaves it, where this many seconds may pass until a round begins from
 -- which on the signal stops at the phase in each turn: those seconds, an intergreen that is under way then, and the longest wait.
 abbrev pub recalled_wait : List Phase → (ℕ → ℕ) → ℕ → ℕ → ℕ
 recalled_wait plan intergreen until_recalled k = until_recalled + greatest_intergreen plan intergreen + longest_wait plan intergreen k
 
--- so many seconds, where the least green of phase k is longer than its start-up: else its greens may be over before anything leaves
+-- this many seconds, where the least green of phase k is longer than its start-up: else its greens may be over before anything leaves
 abbrev pub green_bound : List Phase → ℕ → ℕ → Result ℕ NoBound
 green_bound plan k wait = if nat_lt (phase_at plan k).loss (phase_at plan k).least then Ok wait else Err ShortGreen
 
 -- Within how many seconds each queue of a link of phase k, one without a walk, loses something, where the intergreens are within these.
--- A marked phase, which the ring may leave out, has such a bound only where in each of these cases a round begins, no more than so many
--- seconds after the begin of a queue, from which on the signal stops at the phase: `until_recalled`, if any. A phase whose least green
--- is no longer than its start-up has none.
+-- A marked phase, which the ring may leave out, has such a bound only where `until_recalled` is a number: a round then begins, no more
+-- than that many seconds after the begin of a queue, from which on the signal stops at the phase. A phase whose least green is no longer
+-- than its start-up has none.
 abbrev pub wait_bound : List Phase → (ℕ → ℕ) → Option ℕ → ℕ → Result ℕ NoBound
 wait_bound plan intergreen until_recalled k =
     if is_unmarked_at plan k then green_bound plan k (longest_wait plan intergreen k)
@@ -50,8 +50,8 @@ wait_bound plan intergreen until_recalled k =
 abbrev pub intergreens_of : Net → ℕ → ℕ → ℕ → ℕ
 intergreens_of net look node = longest_intergreen (plan_at net node) look
 
--- within how many seconds each queue of a link of phase k of a node, one without a walk, loses something, whoever makes the lines, where
--- the intergreens of the nodes are within these
+-- within how many seconds each queue of a link of phase k of a node, one without a walk, loses something, whoever makes the timelines,
+-- where the intergreens of the nodes are within these
 abbrev pub wait_bounds : Net → (ℕ → ℕ → ℕ) → ℕ → ℕ → Result ℕ NoBound
 wait_bounds net intergreens node k = wait_bound (plan_at net node) (intergreens node) None k
 
@@ -75,8 +75,8 @@ least_discharge plan k sat = ((phase_at plan k).least - (phase_at plan k).loss) 
 abbrev pub whole_green_within : List Phase → (ℕ → ℕ) → ℕ → ℕ
 whole_green_within plan intergreen k = (phase_at plan k).greatest + longest_red plan intergreen k + (phase_at plan k).greatest
 
--- In the first `end` seconds each queue of an unmarked phase, of a link without a walk, leaves green by green: after so many times of a whole green it has
--- lost as many least discharges, or all of it has left.
+-- In the first `end` seconds each queue of an unmarked phase, of a link without a walk, leaves green by green: after the times of a
+-- number of whole greens it has lost as many least discharges, or all of it has left.
 abbrev pub AreEmptied : Net → (ℕ → ℕ → ℕ) → (ℕ → ℕ → Cumulative) → ℕ → Type 0
 AreEmptied net intergreens past end =
     (l node n greens : ℕ) → l < length net.link_names → (link_at net l).to ≡ Some node → (link_at net l).walk ≡ None
@@ -86,7 +86,7 @@ AreEmptied net intergreens past end =
     IsTrue (is_unmarked_at plan k) → later ≤ end
     → (past n l).left + min (queue net past n l) (greens * least_discharge plan k (least_rate (link_at net l))) ≤ (past later l).left
 
--- a lawful line with intergreens within these that shows the first `end` seconds: its first row begins with second 0, and its last
+-- a lawful timeline with intergreens within these that shows the first `end` seconds: its first row begins with second 0, and its last
 -- one ends after them
 pub record IsWholeLine (plan : List Phase) (intergreen : ℕ → ℕ) (end : ℕ) (rows : List Green) : Type 0 where
   pub lawful : IsLawful plan rows
@@ -94,7 +94,7 @@ pub record IsWholeLine (plan : List Phase) (intergreen : ℕ → ℕ) (end : ℕ
   pub begins : (row_at rows 0).from ≡ 0
   pub ends : end < end_of rows
 
--- each node of a network has a lawful line with intergreens within these that shows the first `end` seconds
+-- each node of a network has a lawful timeline with intergreens within these that shows the first `end` seconds
 abbrev pub AreWholeLines : Net → (ℕ → ℕ → ℕ) → ℕ → (ℕ → List Green) → Type 0
 AreWholeLines net intergreens end lines =
     (node : ℕ) → node < length net.node_names → IsWholeLine (plan_at net node) (intergreens node) end (lines node)

@@ -6,7 +6,7 @@ use Rattle.control_flow.specs.Greens.{GoesOn, IsLawful, head_at, spliced}
 use Rattle.control_flow.specs.declared.greens.Green.{Green}
 use Rattle.waits.specs.Waits.{AreIntergreensWithin}
 
--- a round that begins in second `now` continues a line from its head by lawful rows with intergreens within these
+-- a round that begins in second `now` continues a timeline from its head by lawful rows with intergreens within these
 pub record IsRound (plan : List Phase) (intergreen : ℕ → ℕ) (now : ℕ) (old new : List Green) : Type 0 where
   pub head : Head
   pub next : List Green
@@ -16,8 +16,8 @@ pub record IsRound (plan : List Phase) (intergreen : ℕ → ℕ) (now : ℕ) (o
   pub intergreens : AreIntergreensWithin intergreen next
   pub line : new ≡ spliced old next
 
--- `line r` is the line before round r, which begins in second `begins r`: the first is lawful with intergreens within these, and each
--- of so many rounds continues it by such rows
+-- `line r` is the timeline before round r, which begins in second `begins r`: the first is lawful with intergreens within these, and each
+-- of this many rounds continues it by such rows
 pub record AreRounds (plan : List Phase) (intergreen : ℕ → ℕ) (rounds : ℕ) (begins : ℕ → ℕ) (line : ℕ → List Green) : Type 0 where
   pub lawful : IsLawful plan (line 0)
   pub intergreens : AreIntergreensWithin intergreen (line 0)

@@ -8,7 +8,7 @@ use Rattle.switch_rules.specs.declared.Served.{Served}
 use Rattle.control_flow.specs.Greens.{end_of, is_green, row_at}
 use Rattle.control_flow.specs.declared.greens.Green.{Green}
 
--- the intergreens of a line are within these: from the end of a row of phase k to the begin of the next row at most `intergreen k`
+-- the intergreens of a timeline are within these: from the end of a row of phase k to the begin of the next row at most `intergreen k`
 -- seconds pass
 pub record AreIntergreensWithin (intergreen : ℕ → ℕ) (rows : List Green) : Type 0 where
   pub next : (i : ℕ) → i + 1 < length rows → (row_at rows (i + 1)).from ≤ (row_at rows i).to + intergreen (row_at rows i).phase
@@ -39,7 +39,7 @@ pub record IsGreenBy (rows : List Green) (k from to : ℕ) : Type 0 where
   pub before : second ≤ to
   pub green : IsTrue (is_green rows k second)
 
--- a phase is green within `most` seconds of each second from the line's first green on, where the line goes on as long
+-- a phase is green within `most` seconds of each second from the timeline's first green on, where it goes on as long
 abbrev pub IsGreenWithin : List Green → ℕ → ℕ → Type 0
 IsGreenWithin rows k most =
     (second : ℕ) → (row_at rows 0).from ≤ second → second + most < end_of rows → IsGreenBy rows k second (second + most)

@@ -110,8 +110,8 @@ fn until_called(net: &Network) -> u32
 }
 
 /// Within how many seconds each queue of a phase, of a link without a walk, loses something, where the signal stays in all-red at most
-/// `look` seconds from the end of a green, and a marked phase is recalled by a round that begins within `until_recalled` seconds of the begin of a queue, if
-/// at all; else why there is no such bound.
+/// `look` seconds from the end of a green, and a marked phase is recalled by a round that begins within `until_recalled` seconds of the
+/// begin of a queue, if at all; else why there is no such bound. `look` is at most 180, `until_recalled` at most 3630.
 ///
 /// docs/RULES.md, "How long a queue can wait".
 pub fn wait_bound(
@@ -137,7 +137,7 @@ pub fn wait_bound(
     }
 }
 
-/// So many seconds, where the least green of a phase is longer than its start-up.
+/// This many seconds, where the least green of a phase is longer than its start-up.
 fn green_bound(times: &Phase, wait: u32) -> Result<u32, NoBound>
     ensures { result ≡ if nat_lt times.now.loss times.now.least then Ok wait else Err NoBound.ShortGreen }
 {

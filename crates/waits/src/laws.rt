@@ -47,7 +47,7 @@ pub fn law_of_servings()
         → BeginSoon plan by head ks ss }
 {}
 
-/// Rounds that continue a line by lawful rows with intergreens within bounds leave such a line; and what is lawful where fewer
+/// Rounds that continue a timeline by lawful rows with intergreens within bounds leave such a timeline; and what is lawful where fewer
 /// phases are marked is lawful.
 ///
 /// docs/RULES.md, "How long a queue can wait".
