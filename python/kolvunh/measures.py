@@ -25,6 +25,7 @@ from .networks import Network, network_faults, read_network
 from .queues import read_queues
 from .records import Place, quote
 from .reports import Green, Records, read_report
+from .signs import lights_of
 
 # Highway Capacity Manual, signalized junctions: seconds a vehicle, at most
 LEVELS = ((10, "A"), (20, "B"), (35, "C"), (55, "D"), (80, "E"))
@@ -147,24 +148,24 @@ class Study:
         return greens
 
     @cached_property
-    def green_seconds(self) -> dict[tuple[str, int], list[int]]:
-        """For each node and phase how many of the first n seconds are green."""
-        seconds = {}
-        for key, greens in self.greens.items():
+    def green_seconds(self) -> dict[str, list[int]]:
+        """For each link that ends at a node in how many of the first n seconds it is green, in all its greens."""
+        rows, seconds = self.report.greens_of(), {}
+        for link in (link for link in self.network.links if link.end):
             lit = [0] * self.end
-            for green in greens:
-                lit[green.begin : green.end] = [1] * (min(green.end, self.end) - green.begin)
-            seconds[key] = [0, *accumulate(lit)]
+            for light in lights_of(self.network, link, rows.get(link.end, ())):
+                lit[light.begin : light.end] = [1] * (min(light.end, self.end) - light.begin)
+            seconds[link.name] = [0, *accumulate(lit)]
         return seconds
 
     def phase_of(self, link: str) -> tuple[str, int]:
-        """The node and the phase in which a link has green."""
+        """The node and the phase that is the home of a link."""
         node, number = self.network.phase_of[link]
         return node.name, number
 
     def tally(self, name: str, begin: int, end: int, turn: int | None = None) -> Tally:
         """The sums of a link over those who reach its end in an interval; of those alone who take a turn of it, by its place from 0."""
-        flow, lit, tally = self.flows[name], self.green_seconds[self.phase_of(name)], Tally()
+        flow, lit, tally = self.flows[name], self.green_seconds[name], Tally()
         for passage in flow.passages_in(begin, end):
             amount: float = passage.amount
             if turn is not None:

@@ -69,11 +69,16 @@ class Run {
   greensOf(node, phase) {
     return this.keep(`greens ${node} ${phase}`, () => this.greens[node].filter((green) => green[0] === phase));
   }
-  // How many of the first seconds are green in a phase.
-  lit(node, phase) {
-    return this.keep(`lit ${node} ${phase}`, () => {
+  // In how many of the first seconds a link is green, in all its greens and the changes between two of them; a crossing in its walk alone.
+  lit(link) {
+    return this.keep(`lit ${link.number}`, () => {
       const lit = new Int32Array(END + 1), on = new Uint8Array(END);
-      for (const [, from, to] of this.greensOf(node, phase)) on.fill(1, from, Math.min(to, END));
+      this.greens[link.to].forEach(([phase, from, to], at, rows) => {
+        if (!link.greens.includes(phase)) return;
+        const goesOn = at + 1 < rows.length && link.greens.includes(rows[at + 1][0]);
+        const until = link.walk !== null ? Math.min(to, from + link.walk) : goesOn ? rows[at + 1][1] : to;
+        on.fill(1, from, Math.min(until, END));
+      });
       for (let second = 0; second < END; second++) lit[second + 1] = lit[second] + on[second];
       return lit;
     });
@@ -99,7 +104,7 @@ function firstAt(passages, second) {
 function tally(run, links, from, to) {
   const all = { vehicles: 0, delay: 0, stopped: 0, onGreen: 0, expected: 0 };
   for (const link of links) {
-    const passages = run.passages(link.number), lit = run.lit(link.to, link.phase);
+    const passages = run.passages(link.number), lit = run.lit(link);
     let vehicles = 0;
     for (let at = firstAt(passages, from); at < passages.length && passages[at][0] < to; at++) {
       const [reached, left, amount] = passages[at], wait = (left < 0 ? END : left) - reached;

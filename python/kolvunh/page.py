@@ -74,6 +74,8 @@ def network_data(network: Network, places: Places) -> dict[str, Any]:
                 "travel": link.travel,
                 "sat": link.sat,
                 "phase": network.phase_of[link.name][1] if link.end else -1,
+                "greens": sorted(network.greens_of[link.name]) if link.end else [],
+                "walk": link.walk,
                 "turns": [[links[turn.exit], turn.share] for turn in link.turns],
             }
             for link in network.links

@@ -12,6 +12,7 @@ from kolvunh.networks import read_network
 from kolvunh.queues import read_queues
 from kolvunh.reports import Green
 
+from .test_signs import NETWORK as OVERLAPS
 from .worked import ARRIVALS, NETWORK, QUEUES, REPORT, FilesTest
 
 # The run of docs/RULES.md, "Actuated control": its queues are those of docs/FORMATS.md, "Queues".
@@ -74,6 +75,14 @@ class MeasuresTest(FilesTest):
         # Queues: 5 at moments 11 to 14, then 4.5, 4, and 3.5 at 17 to 20.
         self.assertEqual((row.vehicles, row.left, row.stopped, row.delay, row.delay_each), (5, 1.5, 5, 42.5, 8.5))
         self.assertEqual((row.queue_50, row.queue_95, row.queue_most), (0, 5, 5))
+
+    def test_further_greens_and_walks(self) -> None:
+        # `left` is green from 0 to 20 of 30 seconds, in two phases and the change between them; `walk` in the seconds 25 and 26 alone.
+        report = "kind,round,node,x,y,z,w\ngreen,,a,0,0,10,\ngreen,,a,1,15,20,\ngreen,,a,2,25,30,\n"
+        study = self.study(report, "second,link,amount\n4,left,1000\n25,walk,1000\n26,walk,1000\n", OVERLAPS)
+        left, walk = (self.row(study, "link", name) for name in ("left", "walk"))
+        self.assertEqual((left.on_green, left.platoon_ratio, left.greens), (1, 1.5, 1))
+        self.assertEqual((walk.on_green, round(walk.platoon_ratio, 9)), (0.5, 7.5))
 
     def test_a_movement_is_what_takes_a_turn(self) -> None:
         # Half of what comes from a turns back at b: 0.5 of the vehicle that reaches b in the seconds 20 and 21.
