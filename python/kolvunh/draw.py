@@ -326,10 +326,10 @@ def points_of(place: Place) -> dict[str, dict[float, list[float]]]:
     for row in rows_of(place, text_of(place), ("series", "x", "y")):
         try:
             x, y = map(float, row.fields[1:])
-            if not (math.isfinite(x) and math.isfinite(y)):
-                raise ValueError("no end")
-        except ValueError as fault:
-            raise Fault(f"{place}:{row.line}: x and y have to be numbers, and are {quote(','.join(row.fields[1:]))}") from fault
+        except ValueError:
+            x = y = math.nan
+        if not (math.isfinite(x) and math.isfinite(y)):
+            raise Fault(f"{place}:{row.line}: x and y have to be numbers, and are {quote(','.join(row.fields[1:]))}")
         points[row.fields[0]][x].append(y)
     if not points:
         raise Fault(f"{place}: there are no points")

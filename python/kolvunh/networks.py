@@ -186,11 +186,12 @@ def read_tables(place: Place) -> dict[str, Any]:
 
 @contextlib.contextmanager
 def network_faults(place: Place) -> Iterator[None]:
-    """What goes wrong with a network that was read as right, as one fault: the program does not take it, and says why."""
+    """What can't be done with a network, as one fault. Reading tests little of it; whether the program takes it, the program says."""
     try:
         yield
     except (AttributeError, IndexError, KeyError, TypeError, ValueError, ZeroDivisionError) as fault:
-        raise Fault(f"{place}: this is no network that the program takes: `./signal explain upgrade {place}`") from fault
+        why = f"{type(fault).__name__}: {fault}"
+        raise Fault(f"{place}: this network can't be used here ({why}); `./signal explain upgrade {place}` says whether the program takes it") from fault
 
 
 def read_network(place: Place) -> Network:

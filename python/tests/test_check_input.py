@@ -154,7 +154,7 @@ class CheckInputTest(FilesTest):
             ((net, self.file("second,amount\n0,1\n", "short")), 'short:1: the header is "second,amount", and has to be second,link,amount'),
             ((worked.EXAMPLES / "corridor.toml", arr), 'arr: link "sa" is none of the network: is it a file of another one?'),
             ((net, arr, self.file(worked.PLAN.replace("b,1", "b,2"), "plan")), 'plan: the network has no phase 2 of node "b"'),
-            ((self.file(QUIET.replace('links = ["sb"]', 'links = ["xx"]'), "odd"), arr), "this is no network that the program takes"),
+            ((self.file(QUIET.replace('links = ["sb"]', 'links = ["xx"]'), "odd"), arr), "this network can't be used here"),
         ):
             status, out, err = self.command(*words)
             self.assertEqual((status, out, err.count("\n")), (2, "", 1), err)

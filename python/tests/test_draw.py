@@ -91,7 +91,7 @@ class DrawTest(FilesTest):
             (("greens", net, self.folder / "none"), "none: No such file or directory"),
             (("greens", net, other), "which the network has not: is it of another network?"),
             (("greens", report, report), "report: Expected '=' after a key in a key/value pair (at line 1, column 5)"),
-            (("greens", odd, report), "odd: this is no network that the program takes"),
+            (("greens", odd, report), "odd: this network can't be used here"),
             (("greens", net, report, "--from", "120"), "from second 120 to 120 there is nothing to draw: the run goes from 0 to 120"),
             (("street", net, report, "first=0", "sixth=9"), '"sixth=9": the network has no node "sixth"'),
             (("street", net, report, "first=0", "second"), 'is no number of metres; the form is NODE=METRES'),

@@ -140,7 +140,7 @@ class MeasuresTest(FilesTest):
             measures.answer([*files[:2], str(self.file(REPORT, "other")), *queues])
         odd = str(self.file(NETWORK.replace('links = ["sb"]', 'links = ["xx"]'), "odd"))
         for answer in (measures.answer, page.answer, summary.answer):
-            with self.assertRaisesRegex(Fault, "odd: this is no network that the program takes"):
+            with self.assertRaisesRegex(Fault, "odd: this network can't be used here"):
                 answer([odd, *files[1:]])
         with self.assertRaisesRegex(Fault, '"east": its links'):
             measures.answer([*files, "--by", "approach", "--approach", "east=sa,no"])

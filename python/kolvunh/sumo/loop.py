@@ -21,7 +21,7 @@ from bisect import bisect_right
 from collections import Counter, defaultdict
 from functools import partial
 from pathlib import Path
-from types import MappingProxyType
+from types import MappingProxyType, ModuleType
 
 from ..arrivals import Arrival, arrivals_text, read_arrivals
 from ..commands import Words, end
@@ -234,7 +234,7 @@ def repeat_arrivals(path, period, seconds, to):
     to.write_text(arrivals_text(again))
 
 
-def traci_of_sumo():
+def traci_of_sumo() -> ModuleType:
     """The module by which SUMO is asked; a fault where SUMO's tools are not installed."""
     try:
         import traci
