@@ -5,40 +5,49 @@ square; which way is north is not known.
 """
 
 import cmath
+import heapq
 import math
+from operator import mul
 
 from .networks import Network
 
 Places = dict[str, tuple[float, float]]
+NEAREST = 64  # so many nodes pull one to its place, beside which farther ones weigh nothing
 
 
 def distances_of(network: Network) -> dict[tuple[str, str], float]:
     """The least travel from node to node, whichever way links lead; 1.5 times the greatest one where there is no way."""
     names = [node.name for node in network.nodes]
-    far = math.inf
-    distances = {(one, other): 0.0 if one == other else far for one in names for other in names}
+    ways: dict[str, dict[str, int]] = {name: {} for name in names}
     for link in network.links:
         if link.start and link.end:
-            travel = min(link.travel, distances[link.start, link.end])
-            distances[link.start, link.end] = distances[link.end, link.start] = travel
-    for over in names:
-        near = [name for name in names if distances[over, name] < far]
-        for one in near:
-            for other in near:
-                way = distances[one, over] + distances[over, other]
-                if way < distances[one, other]:
-                    distances[one, other] = way
-    most = max((travel for travel in distances.values() if travel < far), default=1) or 1
-    return {pair: travel if travel < far else 1.5 * most for pair, travel in distances.items()}
+            travel = min(link.travel, ways[link.start].get(link.end, link.travel))
+            ways[link.start][link.end] = ways[link.end][link.start] = travel
+    found = {one: _travel_from(one, ways) for one in names}
+    most = max((travel for row in found.values() for travel in row.values()), default=1) or 1
+    return {(one, other): found[one].get(other, 1.5 * most) for one in names for other in names}
+
+
+def _travel_from(begin: str, ways: dict[str, dict[str, int]]) -> dict[str, int]:
+    """The least travel from a node to each that can be reached from it, by ways from node to node."""
+    found: dict[str, int] = {}
+    ahead = [(0, begin)]
+    while ahead:
+        travel, name = heapq.heappop(ahead)
+        if name not in found:
+            found[name] = travel
+            for other, more in ways[name].items():
+                heapq.heappush(ahead, (travel + more, other))
+    return found
 
 
 def _axis(matrix: list[list[float]], without: list[list[float]]) -> list[float]:
     """The strongest direction of a symmetric matrix that is at right angles to the given ones, by repeated multiplication."""
     axis = [math.sin(1.0 + 2.3 * place + 0.7 * len(without)) for place in range(len(matrix))]
     for _ in range(60):
-        axis = [sum(cell * part for cell, part in zip(row, axis)) for row in matrix]
+        axis = [sum(map(mul, row, axis)) for row in matrix]
         for other in without:
-            part = sum(a * b for a, b in zip(axis, other))
+            part = sum(map(mul, axis, other))
             axis = [a - part * b for a, b in zip(axis, other)]
         length = math.hypot(*axis) or 1.0
         axis = [part / length for part in axis]
@@ -56,22 +65,27 @@ def _begin(names: list[str], distances: dict[tuple[str, str], float]) -> list[co
     second = _axis(matrix, [first])
     scales = []
     for axis in (first, second):
-        image = [sum(cell * part for cell, part in zip(row, axis)) for row in matrix]
-        scales.append(math.sqrt(max(0.0, sum(a * b for a, b in zip(axis, image)))))
+        image = [sum(map(mul, row, axis)) for row in matrix]
+        scales.append(math.sqrt(max(0.0, sum(map(mul, axis, image)))))
     return [complex(x * scales[0], y * scales[1]) for x, y in zip(first, second)]
 
 
-def _relax(places: list[complex], wanted: list[list[float]], weights: list[list[float]]) -> list[complex]:
-    """One step that brings all pairs of nodes nearer to their distances, near pairs first of all."""
+def _pulls(row: list[float], own: int) -> list[tuple[int, float, float]]:
+    """The nodes nearest to one, each with the distance from it and what it weighs: near ones most of all."""
+    others = sorted((length, other) for other, length in enumerate(row) if other != own)
+    return [(other, length, 1 / (length or 1) ** 3) for length, other in others[:NEAREST]]
+
+
+def _relax(places: list[complex], pulls: list[list[tuple[int, float, float]]]) -> list[complex]:
+    """One step that brings each node nearer to its distances from those that pull it."""
     moved = []
     for i, place in enumerate(places):
         total, sums = 0.0, 0j
-        for j, other in enumerate(places):
-            if i != j:
-                gap = place - other
-                length = abs(gap)
-                aim = other + (gap * (wanted[i][j] / length) if length > 1e-9 else wanted[i][j] * cmath.exp(1j * (i + j)))
-                total, sums = total + weights[i][j], sums + weights[i][j] * aim
+        for j, wanted, weight in pulls[i]:
+            gap = place - places[j]
+            length = abs(gap)
+            aim = places[j] + (gap * (wanted / length) if length > 1e-9 else wanted * cmath.exp(1j * (i + j)))
+            total, sums = total + weight, sums + weight * aim
         moved.append(sums / total if total else place)
     return moved
 
@@ -98,11 +112,10 @@ def places_of(network: Network, given: Places | None = None) -> Places:
     if len(names) == 1:
         return {names[0]: (0.0, 0.0)}
     distances = distances_of(network)
-    wanted = [[distances[one, other] for other in names] for one in names]
-    weights = [[1 / (length or 1) ** 3 for length in row] for row in wanted]
+    pulls = [_pulls([distances[one, other] for other in names], own) for own, one in enumerate(names)]
     places = _begin(names, distances)
     for _ in range(80):
-        places = _relax(places, wanted, weights)
+        places = _relax(places, pulls)
     turned = _turn_places(network, dict(zip(names, places)))
     return {name: (place.real, place.imag) for name, place in turned.items()}
 
