@@ -342,6 +342,9 @@ class NetworkTest(unittest.TestCase):
             (self.file("", "a.xml"), good, "its first element is <routes>, and has to be <net>"),
             (self.changed("b.net.xml", "</net>", ""), good, "it is no XML"),
             (self.changed("c.net.xml", "tlLogic", "other"), good, "the network has no signals"),
+            (self.changed("l.net.xml", ' length="', ' length="?'), good, "it is not as SUMO writes it: could not convert"),
+            (self.changed("m.net.xml", ' duration="', ' duration="nan" was="'), good, "duration of <phase> is nan"),
+            (self.changed("n.net.xml", ' via=":A0_', ' via="A0_'), good, "via of <connection> is no lane within a junction: 'A0_"),
             (self.grid, self.folder / "none.rou.xml", "No such file"),
             (self.grid, self.file("", "d.rou.xml"), "there is no vehicle in it"),
             (self.grid, self.grid, "its first element is <net>, and has to be <routes>"),
@@ -353,6 +356,7 @@ class NetworkTest(unittest.TestCase):
             (self.grid, self.file(f'<flow id="a" from="{start}" begin="0" number="few"/>', "i.rou.xml"), "<flow> has no number number"),
             (self.grid, self.file(f'<trip id="a" from="{start}" to="{start}" depart="0"/>', "j.rou.xml"), "no vehicle passes a signal"),
             (self.grid, self.file('<vehicle id="a" depart="0"><route/></vehicle>', "k.rou.xml"), "a route has no edges"),
+            (self.grid, self.file(f'<route id="r" edges="{way}" probability="inf"/>', "o.rou.xml"), "probability of <route> is inf"),
         ):
             status, lines = self.command(net, routes, out)
             self.assertEqual((status, len(lines)), (2, 1), lines)

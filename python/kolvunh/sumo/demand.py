@@ -4,6 +4,7 @@ A flow's vehicles come evenly, also where SUMO draws them. A trip takes the quic
 on the counted edges to which no counted edge leads, or where a flow without an end begins, and their turns are drawn from a number.
 """
 
+import math
 import random
 import re
 import xml.etree.ElementTree as ElementTree
@@ -14,7 +15,7 @@ from typing import NamedTuple
 from ..faults import Fault
 from ..records import Place, quote
 from .groups import WALKING
-from .streets import Streets, quickest, read_root
+from .streets import Streets, as_sumo_writes, finite, number, quickest, read_root
 
 MOST_EDGES = 1000  # of a vehicle whose turns are drawn
 HOUR, DAY = 3600, 86_400  # seconds
@@ -48,21 +49,25 @@ class Demand:
         self._path = path
         root = read_root(path, "routes", "additional", "trips", "flows", "route-alternatives")
         before = len(self.vehicles) + len(self.walkers) + self.told.total()
-        for row in root:
-            if row.tag in ("route", "routeDistribution"):
-                self._routes[row.get("id", "")] = self._choices(row)
-        for row in root:
-            if row.tag == "interval":
-                for flow in row.iter("flow"):
-                    self._add_flow(flow, seconds_of(row.get("begin", "0")), seconds_of(row.get("end", str(DAY))))
-            elif row.tag == "flow":
-                self._add_flow(row, 0, DAY)
-            elif row.tag in ("vehicle", "trip"):
-                self._add_one(row)
-            elif row.tag in ("person", "personFlow"):
-                self._add_walks(row)
+        with as_sumo_writes(path):
+            for row in root:
+                if row.tag in ("route", "routeDistribution"):
+                    self._routes[row.get("id", "")] = self._choices(row)
+            for row in root:
+                self._add(row)
         if before == len(self.vehicles) + len(self.walkers) + self.told.total():
             raise Fault(f"{path}: there is no vehicle in it, and no network without vehicles")
+
+    def _add(self, row: ElementTree.Element) -> None:
+        if row.tag == "interval":
+            for flow in row.iter("flow"):
+                self._add_flow(flow, seconds_of(row.get("begin", "0")), seconds_of(row.get("end", str(DAY))))
+        elif row.tag == "flow":
+            self._add_flow(row, 0, DAY)
+        elif row.tag in ("vehicle", "trip"):
+            self._add_one(row)
+        elif row.tag in ("person", "personFlow"):
+            self._add_walks(row)
 
     def read_turns(self, path: Place) -> None:
         """Takes the shares of turns of a file of jtrrouter: counts or probabilities from edge to edge in an interval."""
@@ -115,16 +120,16 @@ class Demand:
     def _choices(self, row: ElementTree.Element) -> list[tuple[float, tuple[str, ...]]]:
         """The routes of an element, each with its weight."""
         if row.tag == "route":
-            return [(float(row.get("probability", 1)), self._route(row))]
+            return [(number(row, "probability", 1), self._route(row))]
         found = []
         for route in row.iter("route"):
             if "refId" in route.attrib:
-                found += [(float(route.get("probability", 1)), edges) for _, edges in self._routes.get(route.get("refId", ""), [])]
+                found += [(number(route, "probability", 1), edges) for _, edges in self._routes.get(route.get("refId", ""), [])]
             else:
-                found.append((float(route.get("probability", 1)), self._route(route)))
+                found.append((number(route, "probability", 1), self._route(route)))
         names, shares = row.get("routes", "").split(), row.get("probabilities", "").split()
         for place, name in enumerate(names):
-            weight = float(shares[place]) if place < len(shares) else 1.0
+            weight = finite(shares[place], f"a probability of <{row.tag}>") if place < len(shares) else 1.0
             found += [(weight, edges) for _, edges in self._routes.get(name, [])]
         return found
 
@@ -250,7 +255,8 @@ def seconds_of(text: str) -> float | None:
         values = [float(part) for part in parts]
     except ValueError:
         return None
-    return sum(value * scale for value, scale in zip(reversed(values), (1, 60, 3600, DAY)))
+    seconds = sum(value * scale for value, scale in zip(reversed(values), (1, 60, 3600, DAY)))
+    return seconds if math.isfinite(seconds) else None
 
 
 def span_of(row: ElementTree.Element) -> tuple[float, float]:
@@ -260,9 +266,8 @@ def span_of(row: ElementTree.Element) -> tuple[float, float]:
 
 def number_of(path: Place, row: ElementTree.Element, *names: str) -> float:
     """The number of the first of these attributes that an element has."""
-    text = next((row.get(name, "") for name in names if name in row.attrib), None)
     try:
-        return float(text if text is not None else "none")
+        return number(row, next((name for name in names if name in row.attrib), names[0]), math.nan)
     except ValueError as fault:
         raise Fault(f"{path}: <{row.tag}> has no number {' or '.join(names)}") from fault
 
@@ -277,7 +282,7 @@ def vehicles_of(path: Place, row: ElementTree.Element, seconds: float) -> float:
 
 def rate_of(path: Place, row: ElementTree.Element, seconds: float) -> float | None:
     """How many vehicles a flow has in these seconds by its period, its rate or its probability in a second; None where it says none."""
-    if rate := re.fullmatch(r"exp\(([0-9.]+)\)", row.get("period", "")):
+    if rate := re.fullmatch(r"exp\((\d+\.?\d*|\.\d+)\)", row.get("period", "")):
         return seconds * float(rate[1])
     if "period" in row.attrib:
         return seconds / max(0.1, number_of(path, row, "period"))

@@ -6,7 +6,8 @@ import math
 import re
 import xml.etree.ElementTree as ElementTree
 from collections import defaultdict
-from collections.abc import Callable, Iterable
+from collections.abc import Callable, Iterable, Iterator
+from contextlib import contextmanager
 from typing import NamedTuple
 
 from ..faults import Fault
@@ -30,6 +31,28 @@ def read_root(path: Place, *tags: str) -> ElementTree.Element:
     if root.tag not in tags:
         raise Fault(f"{path}: its first element is <{root.tag}>, and has to be <{'> or <'.join(tags)}>")
     return root
+
+
+@contextmanager
+def as_sumo_writes(path: Place) -> Iterator[None]:
+    """Raises a fault that names the file where a number or a lane in it is none."""
+    try:
+        yield
+    except ValueError as fault:
+        raise Fault(f"{path}: it is not as SUMO writes it: {fault}") from fault
+
+
+def finite(text: str | float, what: str) -> float:
+    """The number that a text is; a ValueError where it is none, or is not finite."""
+    value = float(text)
+    if not math.isfinite(value):
+        raise ValueError(f"{what} is {value}")
+    return value
+
+
+def number(row: ElementTree.Element, name: str, absent: float = 0) -> float:
+    """The number that an attribute of an element is."""
+    return finite(row.get(name, absent), f"{name} of <{row.tag}>")
 
 
 def edge_of(lane: str) -> str:
@@ -63,7 +86,7 @@ class Junctions:
         self.after: dict[str, str] = {}
         self._requests: dict[str, list[tuple[str, str]]] = {}
         numbers = {}
-        lengths = {lane.get("id", ""): float(lane.get("length", 0)) for lane in root.iter("lane")}
+        lengths = {lane.get("id", ""): number(lane, "length") for lane in root.iter("lane")}
         # An internal junction, where vehicles wait in the middle, lists lanes of its junction at other places.
         for junction in (found for found in root.iter("junction") if found.get("type") != "internal"):
             rows = junction.findall("request")
@@ -82,8 +105,10 @@ class Junctions:
             self.after[lane] = exit_lane
         signal, direction = row.get("tl"), row.get("dir", "s")
         if signal and "via" in row.attrib:
-            junction, first, further = re.fullmatch(r":(.*)_(\d+)_(\d+)", row.get("via", "")).groups()
-            place = int(row.get("linkIndex", 0)), junction, int(first) + int(further), direction
+            within = re.fullmatch(r":(.*)_(\d+)_(\d+)", row.get("via", ""))
+            if within is None:
+                raise ValueError(f"via of <connection> is no lane within a junction: {row.get('via')!r}")
+            place = int(row.get("linkIndex", 0)), within[1], int(within[2]) + int(within[3]), direction
             self.movements[signal].append(Movement(lane, exit_lane, *place, room=room))
         elif signal and exit_lane in numbers:
             junction = re.sub(r"_c\d+_\d+$", "", exit_lane[1:])
@@ -137,11 +162,15 @@ class Streets:
     """SUMO's edges and which lead into which, where its junctions are in metres, and the programs of its signals."""
 
     def __init__(self, path: Place) -> None:
-        root = read_root(path, "net")
-        self.path, self.junctions, self.left_hand = path, Junctions(root), root.get("lefthand") == "true"
+        self.path = path
+        with as_sumo_writes(path):
+            self._read(read_root(path, "net"))
+
+    def _read(self, root: ElementTree.Element) -> None:
+        self.junctions, self.left_hand = Junctions(root), root.get("lefthand") == "true"
         self.edges = {edge.get("id", ""): _edge(edge) for edge in root.iter("edge") if edge.get("function", "normal") == "normal"}
         self.edges = {name: edge for name, edge in self.edges.items() if edge.lanes}
-        self.places = {place.get("id", ""): (float(place.get("x", 0)), float(place.get("y", 0))) for place in root.iter("junction")}
+        self.places = {place.get("id", ""): (number(place, "x"), number(place, "y")) for place in root.iter("junction")}
         self.onward: dict[str, list[str]] = defaultdict(list)
         for way in root.iter("connection"):
             start, exit = way.get("from", ""), way.get("to", "")
@@ -152,10 +181,10 @@ class Streets:
             for exit in exits:
                 self.before[exit].append(start)
         self._root = root
-        self.lengths = {lane.get("id", ""): float(lane.get("length", 0)) for lane in root.iter("lane")}
+        self.lengths = {lane.get("id", ""): number(lane, "length") for lane in root.iter("lane")}
         self.programs: dict[str, list[Program]] = defaultdict(list)
         for logic in root.iter("tlLogic"):
-            states = tuple((float(row.get("duration", 0)), row.get("state", "")) for row in logic.iter("phase"))
+            states = tuple((number(row, "duration"), row.get("state", "")) for row in logic.iter("phase"))
             self.programs[logic.get("id", "")].append(Program(logic.get("programID", ""), states))
 
     def route(self, start: str, end: str) -> list[str] | None:
@@ -175,7 +204,7 @@ class Streets:
 
 def _edge(row: ElementTree.Element) -> Edge:
     rows = [lane for lane in row.iter("lane") if lane.get("allow") != "pedestrian" and lane.get("disallow") != "all"]
-    lanes = (Lane(lane.get("id", ""), float(lane.get("length", 0)), max(0.1, float(lane.get("speed", 0)))) for lane in rows)
+    lanes = (Lane(lane.get("id", ""), number(lane, "length"), max(0.1, number(lane, "speed"))) for lane in rows)
     shape = [(float(x), float(y)) for x, y, *_ in (point.split(",") for point in (rows[0].get("shape", "") if rows else "").split())]
     ways = [direction(*shape[:2]), direction(*shape[-2:])] if len(shape) > 1 else []
     return Edge(row.get("from", ""), row.get("to", ""), tuple(lanes), *ways)
