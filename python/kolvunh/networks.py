@@ -12,6 +12,7 @@ from typing import Any, NamedTuple
 
 from .faults import Fault
 from .records import Place, text_of
+from .toml_lines import TomlLines
 
 
 class Limits(NamedTuple):
@@ -180,8 +181,18 @@ def read_tables(place: Place) -> dict[str, Any]:
         return tomllib.loads(text)
     except UnicodeEncodeError as fault:
         raise Fault(f"{place}: the file is not in UTF-8") from fault
+    except tomllib.TOMLDecodeError as fault:
+        raise Fault(f"{place}: {_no_toml(place, text, fault)}") from fault
     except (ValueError, RecursionError) as fault:  # also of a number that is too long, and of lists in lists without an end
         raise Fault(f"{place}: {fault}") from fault
+
+
+def _no_toml(place: Place, text: str, fault: tomllib.TOMLDecodeError) -> str:
+    """What Python says of a text that is not TOML 1.0, or what to do where it has what TOML 1.1 has besides."""
+    newer = TomlLines(text).newer
+    if newer is None:
+        return str(fault)
+    return f"line {newer} is TOML 1.1, of which Python reads 1.0 alone: `./signal upgrade {place}` writes the network in what it reads"
 
 
 @contextlib.contextmanager
