@@ -12,7 +12,8 @@ from operator import mul
 from .networks import Network
 
 Places = dict[str, tuple[float, float]]
-NEAREST = 64  # so many nodes pull one to its place, beside which farther ones weigh nothing
+ROUNDING = 1e-9  # a part that is no more of the whole is an error of rounding
+NEAREST = 64  # so many nodes, those nearest to one, pull it to its place; farther ones do not
 
 
 def distances_of(network: Network) -> dict[tuple[str, str], float]:
@@ -42,14 +43,17 @@ def _travel_from(begin: str, ways: dict[str, dict[str, int]]) -> dict[str, int]:
 
 
 def _axis(matrix: list[list[float]], without: list[list[float]]) -> list[float]:
-    """The strongest direction of a symmetric matrix that is at right angles to the given ones, by repeated multiplication."""
+    """The strongest direction of a symmetric matrix at right angles to the given ones, by repeated multiplication; zeros where it has none."""
     axis = [math.sin(1.0 + 2.3 * place + 0.7 * len(without)) for place in range(len(matrix))]
     for _ in range(60):
         axis = [sum(map(mul, row, axis)) for row in matrix]
+        whole = math.hypot(*axis)
         for other in without:
             part = sum(map(mul, axis, other))
             axis = [a - part * b for a, b in zip(axis, other)]
-        length = math.hypot(*axis) or 1.0
+        length = math.hypot(*axis)
+        if length <= ROUNDING * whole:
+            return [0.0] * len(matrix)
         axis = [part / length for part in axis]
     return axis
 

@@ -4,12 +4,13 @@ import json
 import re
 import shutil
 import subprocess
+import tomllib
 import unittest
 from argparse import ArgumentTypeError
 from html import unescape
 
 from kolvunh import Fault, page, places
-from kolvunh.networks import read_network
+from kolvunh.networks import network_of, read_network
 
 from .test_measures import HELD
 from .worked import ARRIVALS, EXAMPLES, NETWORK, FilesTest
@@ -40,6 +41,14 @@ class PlacesTest(unittest.TestCase):
         self.assertEqual(places.streets_of(network), [["first", "second", "third"]])
         self.assertEqual(places.distances_of(network)["first", "third"], 36)
         self.assertEqual(places.places_of(network, {"first": (0, 1)}), found)
+
+    def test_a_long_street_is_a_line(self) -> None:
+        street = "".join(f'[[node]]\nname = "n{n}"\nphase = []\n' for n in range(100))
+        street += "".join(f'[[link]]\nname = "l{n}"\nfrom = "n{n}"\nto = "n{n + 1}"\ntravel = 10\nsat = 500\n' for n in range(99))
+        found = places.places_of(network_of(tomllib.loads("[run]\nstep = 5\nlook = 60\ngap = 2\nrounds = 10\n" + street)))
+        for n in range(100):
+            self.assertAlmostEqual(found[f"n{n}"][0], 10 * n - 495, 3)
+            self.assertAlmostEqual(found[f"n{n}"][1], 0, 3)
 
     def test_a_junction(self) -> None:
         network = read_network(EXAMPLES / "junction.toml")
