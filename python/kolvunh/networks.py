@@ -12,7 +12,7 @@ from typing import Any, NamedTuple
 
 from .faults import Fault
 from .records import Place, text_of
-from .toml_lines import TomlLines
+from .toml_lines import stop_of
 
 
 class Limits(NamedTuple):
@@ -189,10 +189,10 @@ def read_tables(place: Place) -> dict[str, Any]:
 
 def _no_toml(place: Place, text: str, fault: tomllib.TOMLDecodeError) -> str:
     """What Python says of a text that is not TOML 1.0, or what to do where it has what TOML 1.1 has besides."""
-    newer = TomlLines(text).newer
-    if newer is None:
+    stop = stop_of(text, fault)
+    if stop is None or stop.newer is None:
         return str(fault)
-    return f"line {newer} is TOML 1.1, of which Python reads 1.0 alone: `./signal upgrade {place}` writes the network in what it reads"
+    return f"line {stop.newer} is TOML 1.1, and Python reads TOML 1.0: write the network anew by `./signal upgrade {place}`"
 
 
 @contextlib.contextmanager

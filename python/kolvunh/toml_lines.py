@@ -6,6 +6,8 @@ comes after has no lines.
 
 import bisect
 import re
+import tomllib
+from typing import NamedTuple
 
 Path = tuple[str | int, ...]
 
@@ -23,6 +25,7 @@ _STRINGS = {
     }.items()
 }
 _NO_SECONDS = re.compile(r"[^:]*[0-9]:[0-9]{2}(?![:0-9])")
+_STOP = re.compile(r" \(at (?:line (\d+), column \d+|end of document)\)$")
 _NEWER = re.compile(r"(?<!\\)(?:\\\\)*\\[ex]")
 
 
@@ -184,3 +187,20 @@ class TomlLines:
             after, self._at = self._at, begin
             self._note_newer()
             self._at = after
+
+
+class Stop(NamedTuple):
+    """Where Python's reader of TOML 1.0 stopped, and why. `newer` is the first line of TOML 1.1, where one is there or before, or None."""
+
+    line: int
+    why: str
+    newer: int | None
+
+
+def stop_of(text: str, fault: tomllib.TOMLDecodeError) -> Stop | None:
+    """Where Python's reader stopped in a text, by what it says; None where it does not say."""
+    place = _STOP.search(str(fault))
+    if place is None:
+        return None
+    line, newer = int(place[1]) if place[1] else text.count("\n") + 1, TomlLines(text).newer
+    return Stop(line, str(fault)[: place.start()], newer if newer is not None and newer <= line else None)

@@ -151,7 +151,8 @@ class CheckInputTest(FilesTest):
         for words, said in (
             ((net, self.folder / "none"), "none: No such file or directory"),
             ((arr, net), "arr: Expected '=' after a key in a key/value pair (at line 1, column 7)"),
-            ((self.file(QUIET.replace("{ exit", "{\n exit", 1), "newer"), arr), "newer: line 51 is TOML 1.1, of which Python reads 1.0 alone"),
+            ((self.file(QUIET.replace("{ exit", "{\n exit", 1), "newer"), arr), "newer: line 51 is TOML 1.1, and Python reads TOML 1.0"),
+            ((self.file("a\n" + QUIET.replace("{ exit", "{\n exit", 1), "broken"), arr), "broken: Expected '=' after a key"),
             ((net, self.file("second,amount\n0,1\n", "short")), 'short:1: the header is "second,amount", and has to be second,link,amount'),
             ((worked.EXAMPLES / "corridor.toml", arr), 'arr: link "sa" is none of the network: is it a file of another one?'),
             ((net, arr, self.file(worked.PLAN.replace("b,1", "b,2"), "plan")), 'plan: the network has no phase 2 of node "b"'),

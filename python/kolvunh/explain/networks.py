@@ -7,7 +7,7 @@ from typing import Any
 
 from ..networks import GREAT, MOST_SECONDS, SMALL_SECONDS, limits_of
 from ..records import plural, quote, text_of
-from ..toml_lines import Path, TomlLines
+from ..toml_lines import Path, TomlLines, stop_of
 from .wording import at, enumeration, meant, ordinal, thousands, value
 
 MOST_WHOLE = 2**63 - 1
@@ -187,22 +187,18 @@ def no_toml(file: str) -> list[str]:
     try:
         tables = tomllib.loads(text)
     except tomllib.TOMLDecodeError as fault:
-        return _toml_fault(file, text, str(fault))
+        return _toml_fault(file, text, fault)
     found = next((path for path, number in _numbers(tables, ()) if not -MOST_WHOLE - 1 <= number <= MOST_WHOLE), None)
     return [at(file, TomlLines(text).line(found), "a whole number has to be from -2^63 to 2^63 - 1")] if found else []
 
 
-def _toml_fault(file: str, text: str, fault: str) -> list[str]:
+def _toml_fault(file: str, text: str, fault: tomllib.TOMLDecodeError) -> list[str]:
     """The line of Python's fault, where nothing that is of TOML 1.1 comes before it."""
-    newer, place = TomlLines(text).newer, re.search(r" \(at (?:line (\d+), column (\d+)|end of document)\)$", fault)
-    if place is None:
+    stop = stop_of(text, fault)
+    if stop is None or stop.newer is not None:
         return []
-    lines = text.split("\n")
-    line = int(place[1]) if place[1] else len(lines)
-    if newer is not None and newer <= line:
-        return []
-    why = next((words for begin, words in TOML_FAULTS.items() if fault.startswith(begin)), fault[: place.start()])
-    return [at(file, line, f"{quote(lines[line - 1].strip())} is no TOML: {why}")]
+    why, lines = next((words for begin, words in TOML_FAULTS.items() if stop.why.startswith(begin)), stop.why), text.split("\n")
+    return [at(file, stop.line, f"{quote(lines[stop.line - 1].strip())} is no TOML: {why}")]
 
 
 # What Python's reader says of a text that is no TOML, in other words.
