@@ -266,8 +266,9 @@ def span_of(row: ElementTree.Element) -> tuple[float, float]:
 
 def number_of(path: Place, row: ElementTree.Element, *names: str) -> float:
     """The number of the first of these attributes that an element has."""
+    named = next((name for name in names if name in row.attrib), names[0])
     try:
-        return number(row, next((name for name in names if name in row.attrib), names[0]), math.nan)
+        return number(row, named, absent=math.nan)
     except ValueError as fault:
         raise Fault(f"{path}: <{row.tag}> has no number {' or '.join(names)}") from fault
 

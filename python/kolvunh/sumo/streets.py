@@ -205,7 +205,8 @@ class Streets:
 def _edge(row: ElementTree.Element) -> Edge:
     rows = [lane for lane in row.iter("lane") if lane.get("allow") != "pedestrian" and lane.get("disallow") != "all"]
     lanes = (Lane(lane.get("id", ""), number(lane, "length"), max(0.1, number(lane, "speed"))) for lane in rows)
-    shape = [(float(x), float(y)) for x, y, *_ in (point.split(",") for point in (rows[0].get("shape", "") if rows else "").split())]
+    points = (point.split(",") for point in (rows[0].get("shape", "") if rows else "").split())
+    shape = [(finite(x, "shape of <lane>"), finite(y, "shape of <lane>")) for x, y, *_ in points]
     ways = [direction(*shape[:2]), direction(*shape[-2:])] if len(shape) > 1 else []
     return Edge(row.get("from", ""), row.get("to", ""), tuple(lanes), *ways)
 
