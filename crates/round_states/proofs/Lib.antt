@@ -5,3 +5,4 @@ pub mod LineLaws
 pub mod OrderLaws
 pub mod StateLaws
 pub mod TextLaws
+pub mod KeptLaws

@@ -5,11 +5,12 @@ use Rattle.net_parts.specs.Numbers.{Net}
 use Rattle.round_states.specs.declared.entries.Entry.{Entry}
 use Rattle.round_states.specs.declared.entries.StateRecord.{StateRecord}
 use Rattle.round_states.specs.declared.faults.StateFault.{StateFault}
+use Rattle.round_states.specs.declared.asked.Asked.{Asked}
 use Rattle.round_states.specs.declared.faults.StateFault.TheVariants.{NoMemory, Row, Name, Time}
 use Rattle.round_states.specs.declared.by_place.ByPlace.{ByPlace}
 use Rattle.round_states.specs.declared.texts.StateReader.{StateReader}
 use Rattle.record_text.specs.Forms.{AreReadAs}
-use Rattle.round_states.specs.Faults.{IsAtName, IsAtRow}
+use Rattle.round_states.specs.Faults.{IsAtName, IsAtRow, IsEntryFault}
 use Rattle.round_states.specs.Order.{AreInOrder, FitsAfter}
 use Rattle.round_states.specs.Texts.{all_said, coming_said, green_said, queue_said, row_said, version_said}
 use Rattle.round_states.specs.StateRecords.{parse_in}
@@ -35,6 +36,13 @@ HasRead net records taker = AreReadAs (parse_in net) (AreInOrder net) records ta
 -- the record with this number tells nothing, or what it tells cannot be added
 abbrev pub IsFaultAt : Net → StateReader → List (List ℕ) → ℕ → StateFault → Type 0
 IsFaultAt net taker fields number fault = Reads net fields number (Err fault) ⊎ ((e : Entry) × (parse_in net fields ≡ Some e) × (new : StateReader) × Adds net e number taker new (Err fault))
+
+-- why what records tell, and then those that were told, is no state for these nodes: there is none of the text, so the first that was told
+-- would have to say when the round begins; or all stand in order, and what they tell is none
+abbrev pub IsFaultWith : Net → Asked → List Entry → List Entry → StateFault → Type 0
+IsFaultWith net asked es told (Time n) = (n ≡ 1) × (es ≡ []) × (0 < length told)
+IsFaultWith net asked es told NoMemory = Unit {0}
+IsFaultWith net asked es told fault = AreInOrder net (es ++ told) × IsEntryFault net asked (es ++ told) fault
 
 -- the elements of each of these lists
 abbrev pub lists_of : {X Z : Type 0} → List (Vec X Z) → List (List X)

@@ -1,16 +1,18 @@
 -- What a record of a state tells.
-use Rattle.std.specs.Prelude.{codes, nat_lt, ℕ, if◌then◌else◌, is_some, List, [], ◌∷◌, Option, Some, None}
+use Rattle.std.specs.Prelude.{codes, nat_lt, ℕ, if◌then◌else◌, is_some, List, [], ◌∷◌, map, Option, Some, None}
+use Rattle.std.specs.Fmt.{decimal}
 use Rattle.std.specs.Str.{bytes_eq}
 use Rattle.foundation.specs.Options.{◌>>=◌}
 use Rattle.board_model.specs.declared.forecasts.Row.{Row}
 use Rattle.control_flow.specs.declared.greens.Green.{Green}
 use Rattle.net_parts.specs.Numbers.{Net, number_of}
-use Rattle.net_parts.specs.Outline.{link_at}
+use Rattle.net_parts.specs.Outline.{link_at, link_name_at, node_name_at}
 use Rattle.record_text.specs.Decimals.{number_of_digits}
 use Rattle.round_states.specs.declared.entries.Entry.{Entry}
 use Rattle.round_states.specs.declared.entries.StateRecord.{StateRecord}
 use Rattle.round_states.specs.declared.entries.StateRecord.TheVariants.{Begins, Shows, Stands, Comes, Publishes, Tells, Ignored}
 use Rattle.round_states.specs.declared.entries.Standing.{Standing}
+use Rattle.round_states.specs.declared.states.LinkBoard.{LinkBoard}
 
 -- the header
 abbrev pub header : List (List ℕ)
@@ -93,3 +95,18 @@ parse_in net fields = do
   content ← parse fields
   place ← place_of net content (name_of fields)
   Some (record { place = place; content = content })
+
+-- the record of a row of a node's timeline
+abbrev pub green_record : Net → ℕ → Green → List (List ℕ)
+green_record net node green = codes "green" ∷ node_name_at net node ∷ decimal green.phase ∷ decimal green.from ∷ decimal green.to ∷ []
+
+-- the record of a link's version, and that of a row of its forecast
+abbrev pub version_record : Net → ℕ → ℕ → List (List ℕ)
+version_record net link version = codes "version" ∷ link_name_at net link ∷ decimal version ∷ [] ∷ [] ∷ []
+
+abbrev pub row_record : Net → ℕ → Row → List (List ℕ)
+row_record net link row = codes "row" ∷ link_name_at net link ∷ decimal row.second ∷ decimal row.amount ∷ [] ∷ []
+
+-- the records of a link's board
+abbrev pub board_records : Net → ℕ → LinkBoard → List (List (List ℕ))
+board_records net link board = version_record net link board.version ∷ map (row_record net link) board.forecast

@@ -8,6 +8,7 @@ mod by_place;
 mod entries;
 mod faults;
 mod fields;
+mod kept_records;
 mod limits;
 mod lines;
 mod order;
@@ -17,5 +18,6 @@ mod texts;
 
 pub use asked::Asked;
 pub use faults::StateFault;
+pub use kept_records::KeptRecords;
 pub use states::{LinkBoard, RoundState};
-pub use texts::read_state;
+pub use texts::{read_state, read_state_with};

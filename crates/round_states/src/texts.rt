@@ -1,11 +1,12 @@
 //! The text of a state.
-ghost use Rattle.std.specs.Prelude.{◌≡◌, ◌≢◌, ◌<◌, ◌^◌, [], IfErr, IfOk, length};
+ghost use Rattle.std.specs.Prelude.{◌≡◌, ◌≢◌, ◌↔◌, ◌<◌, ◌^◌, ◌++◌, ℕ, List, [], IfErr, IfOk, IsTrue, length};
 ghost use Rattle.csv.specs.Records.{fields_of};
 ghost use Rattle.road_net.specs.Network.{IsNetwork};
 ghost use Rattle.round_states.specs.Faults.{IsEntryFault, IsTextFault};
 ghost use Rattle.round_states.specs.Order.{AreInOrder};
 ghost use Rattle.round_states.specs.States.{IsStateOf};
-ghost use Rattle.round_states.specs.Readers.{Adds, IsByPlace, Reads};
+ghost use Rattle.round_states.specs.NextTexts.{AreKept, AreOfAnswer, IsStateTextWith, IsTextFaultWith};
+ghost use Rattle.round_states.specs.Readers.{Adds, IsByPlace, IsFaultWith, Reads};
 ghost use Rattle.round_states.specs.Texts.{IsStateText, TellState};
 ghost use Rattle.round_states.specs.declared.states.RoundState as spec;
 
@@ -15,6 +16,7 @@ use crate::by_place::{ByPlace, sort_entries};
 use crate::entries::{Entry, place_of};
 use crate::faults::StateFault;
 use crate::fields::read_said;
+use crate::kept_records::KeptRecords;
 use crate::limits::check_limits;
 use crate::lines::lines;
 use crate::order::{fits_after, round_of};
@@ -47,12 +49,69 @@ pub fn read_state(
         → (state : spec.RoundState) → ¬ IsStateText net.now asked bytes.now state) }
     ensures first { IfErr result (IsTextFault net.now asked bytes.now) }
 {
+    let none = KeptRecords::none(alloc);
+    read_state_with(alloc, bytes, net, asked, &none)
+}
+
+/// The state that a text tells for these nodes where what an answer told comes after its records. The text has fewer than 2^32 bytes.
+///
+/// The fault is as that of `read_state`, of all records, one after another: so where the text has none after the header, the first that
+/// was told has the fault `Time`, as it does not say when the round begins.
+///
+/// docs/FORMATS.md, "Serving".
+pub fn read_state_with(
+    alloc: Global,
+    bytes: &[u8],
+    net: &Network,
+    asked: Asked,
+    kept: &KeptRecords,
+) -> Result<RoundState, StateFault>
+    requires few { length bytes.now < 2 ^ 32 }
+    requires kept { AreOfAnswer kept.now }
+    ensures ok { (told : List (List (List ℕ))) → AreKept net.now told kept.now
+        → IfOk result (IsStateTextWith net.now asked told bytes.now) }
+    ensures state { IfOk result (IsStateOf net.now asked) }
+    ensures refused { (told : List (List (List ℕ))) → AreKept net.now told kept.now
+        → IfErr result (λ fault. fault ≢ StateFault.NoMemory
+        → (state : spec.RoundState) → ¬ IsStateTextWith net.now asked told bytes.now state) }
+    ensures first { (told : List (List (List ℕ))) → AreKept net.now told kept.now
+        → IfErr result (IsTextFaultWith net.now asked told bytes.now) }
+{
     let mut taker = StateReader::none(alloc, net);
     match take_records(alloc, bytes, net, &mut taker) {
-        Ok(true) => state_of(alloc, net, asked, taker.all.as_slice()),
+        Ok(true) => state_with(alloc, net, asked, taker.all, kept),
         Ok(false) => Err(StateFault::Header),
         Err(fault) => Err(fault),
     }
+}
+
+/// The state that these records tell, which stand in order, and then those that are kept.
+fn state_with(
+    alloc: Global,
+    net: &Network,
+    asked: Asked,
+    entries: Vec<Entry>,
+    kept: &KeptRecords,
+) -> Result<RoundState, StateFault>
+    requires network { IsNetwork net.now }
+    requires order { AreInOrder net.now entries.items }
+    requires kept { AreOfAnswer kept.now }
+    ensures ok { IfOk result (TellState net.now asked (entries.items ++ kept.now.all.items)) }
+    ensures first { IfErr result (IsFaultWith net.now asked entries.items kept.now.all.items) }
+{
+    if begins_with_told(entries.as_slice(), kept.all.as_slice()) {
+        return Err(StateFault::Time(1));
+    }
+    let mut all = entries;
+    all.extend_from_slice(kept.all.as_slice())?;
+    state_of(alloc, net, asked, all.as_slice())
+}
+
+/// Whether the first record is one that was told.
+fn begins_with_told(entries: &[Entry], told: &[Entry]) -> bool
+    ensures { IsTrue result ↔ ((entries.now ≡ []) × (0 < length told.now)) }
+{
+    entries.is_empty() && !told.is_empty()
 }
 
 /// The state that these records tell, which stand in order.

@@ -1,27 +1,27 @@
-use Rattle.std.proofs.Common.{List, IfErr, subst, arith}
-use Rattle.std.proofs.lemmas.Result.{IfErr-weaker}
+use Rattle.std.proofs.Common.{List, ℕ, [], append-nil, subst}
+use Rattle.std.proofs.lemmas.Result.{IfErr-weaker, IfOk-weaker}
+use Rattle.record_text.specs.Forms.{AreRecordsOf, AreRefusedFor}
 use Rattle.record_text.specs.Records.{records_of}
-use Rattle.record_text.proofs.WalkLaws.{counted-few, taken-after}
-use Rattle.world_records.proofs.RecordLaws.{few-records}
-use Rattle.round_states.specs.declared.entries.Entry.{Entry}
-use Rattle.round_states.specs.Faults.{IsEntryFault, IsTextFault}
-use Rattle.round_states.specs.Readers.{HasRead}
-use Rattle.round_states.specs.StateRecords.{header}
-use Rattle.round_states.proofs.TextLaws.{fault-refutes, first-fault, parsed-fault}
+use Rattle.round_states.specs.Faults.{IsTextFault, cause_of}
+use Rattle.round_states.specs.NextTexts.{IsStateTextWith, IsTextFaultWith}
+use Rattle.round_states.specs.Texts.{form}
+use Rattle.round_states.proofs.TextLaws.{fault-refutes}
 use Rattle.round_states.proofs.texts.read_state.Goals as goal
 
-pub take_records-requires-clause-few : goal.take_records-requires-clause-few
-take_records-requires-clause-few c = counted-few _ _ (omega (arith, few-records c.args.bytes.now, c.requires))
+pub read_state_with-requires-clause-kept : goal.read_state_with-requires-clause-kept
+read_state_with-requires-clause-kept c = (c.none-none.ensures c.args.net.now).told
 
-pub returns-in-Ok-true-clause-first : goal.returns-in-Ok-true-clause-first
-returns-in-Ok-true-clause-first c =
-    IfErr-weaker c.state_of.result (IsEntryFault c.args.net.now c.args.asked c.take_records.new.taker.all.items) _
-    (parsed-fault c.args.net.now c.args.asked (records_of c.args.bytes.now) c.take_records.new.taker.all.items (taken-after header (HasRead c.args.net.now) (records_of c.args.bytes.now) c.take_records.new.taker _ c.in-Ok-true.field-0-test c.in-Ok-true.ensures.taken))
-    (subst (λ (es : List Entry). IfErr c.state_of.result (IsEntryFault c.args.net.now c.args.asked es)) c.as_slice.ensures.value c.state_of.ensures.first)
+pub returns-clause-ok : goal.returns-clause-ok
+returns-clause-ok c =
+    IfOk-weaker c.read_state_with.result (IsStateTextWith c.args.net.now c.args.asked [] c.args.bytes.now) _
+    (λ state is. subst (λ (l : List (List (List ℕ))). AreRecordsOf (form c.args.net.now c.args.asked) l state) (append-nil (records_of c.args.bytes.now)) is)
+    (c.read_state_with.ensures.ok [] (c.none-none.ensures c.args.net.now))
 
-pub returns-in-Ok-true-clause-refused : goal.returns-in-Ok-true-clause-refused
-returns-in-Ok-true-clause-refused c =
-    IfErr-weaker c.state_of.result (IsTextFault c.args.net.now c.args.asked c.args.bytes.now) _ (fault-refutes c.args.net.now c.args.asked (records_of c.args.bytes.now)) (returns-in-Ok-true-clause-first c)
+pub returns-clause-first : goal.returns-clause-first
+returns-clause-first c =
+    IfErr-weaker c.read_state_with.result (IsTextFaultWith c.args.net.now c.args.asked [] c.args.bytes.now) _
+    (λ fault is. subst (λ (l : List (List (List ℕ))). AreRefusedFor (form c.args.net.now c.args.asked) l (cause_of c.args.net.now c.args.asked fault)) (append-nil (records_of c.args.bytes.now)) is)
+    (c.read_state_with.ensures.first [] (c.none-none.ensures c.args.net.now))
 
 pub returns-clause-refused : goal.returns-clause-refused
-returns-clause-refused c = fault-refutes c.args.net.now c.args.asked (records_of c.args.bytes.now) c.in-Err.fault (first-fault c.args.net.now c.args.asked (records_of c.args.bytes.now) c.in-Err.fault c.in-Err.ensures.first)
+returns-clause-refused c = IfErr-weaker c.read_state_with.result (IsTextFault c.args.net.now c.args.asked c.args.bytes.now) _ (fault-refutes c.args.net.now c.args.asked (records_of c.args.bytes.now)) (returns-clause-first c)
