@@ -20,3 +20,4 @@ pub mod SoonLaws
 pub mod TellLaws
 pub mod TurnPlaces
 pub mod WritableLaws
+pub mod KeptRecordLaws

@@ -2,20 +2,19 @@
 use Rattle.std.specs.Prelude.{codes, ◌≡◌, ℕ, ◌<◌, ◌&&◌, Bool, List, [], ◌∷◌, ◌++◌, All, Option, Some, None, if◌then◌else◌, is_some, length, map}
 use Rattle.std.specs.Fmt.{decimal}
 use Rattle.std.specs.List.{flat_map, join_with_byte, range_with_len}
-use Rattle.board_model.specs.declared.forecasts.Row.{Row}
 use Rattle.control_flow.specs.declared.greens.Green.{Green}
 use Rattle.intersection_actor.specs.PlanFields.{used_text}
 use Rattle.intersection_actor.specs.declared.records.PlanRecord.{PlanRecord}
 use Rattle.intersection_actor.specs.declared.records.Used.{Used}
 use Rattle.net_parts.specs.Numbers.{Net}
-use Rattle.net_parts.specs.Outline.{link_at, link_name_at, node_name_at}
+use Rattle.net_parts.specs.Outline.{link_at, node_name_at}
 use Rattle.round_decisions.specs.Lines.{rows_from}
 use Rattle.round_decisions.specs.Promises.{decided_line}
 use Rattle.round_decisions.specs.Turns.{board_of, tells}
 use Rattle.round_decisions.specs.declared.decisions.Decision.{Decision}
 use Rattle.round_decisions.specs.declared.decisions.NodeDecision.{NodeDecision}
 use Rattle.round_states.specs.States.{begin_of}
-use Rattle.round_states.specs.StateRecords.{header}
+use Rattle.round_states.specs.StateRecords.{board_records, green_record, header}
 use Rattle.round_states.specs.declared.states.LinkBoard.{LinkBoard}
 use Rattle.schedule_meaning.specs.declared.planners.Answer.{Answer}
 use Rattle.schedule_meaning.specs.declared.planners.Answer.TheVariants.{Plan, NoPlan}
@@ -30,24 +29,9 @@ answer_fields NoPlan = codes "none" ∷ [] ∷ []
 abbrev pub plan_record : Net → PlanRecord → List (List ℕ)
 plan_record net plan = codes "plan" ∷ node_name_at net plan.node ∷ join_with_byte 59 (map (used_text net) plan.used) ∷ answer_fields plan.answer
 
--- the record of a row of a node's line
-abbrev pub green_record : Net → ℕ → Green → List (List ℕ)
-green_record net node green = codes "green" ∷ node_name_at net node ∷ decimal green.phase ∷ decimal green.from ∷ decimal green.to ∷ []
-
 -- the records of a node's turn: its plan, and the rows of its line that rounds from this second on need
 abbrev pub turn_records : Net → ℕ → PlanRecord → List Green → List (List (List ℕ))
 turn_records net second plan line = plan_record net plan ∷ map (green_record net plan.node) (rows_from second line)
-
--- the record of a link's version, and that of a row of its forecast
-abbrev pub version_record : Net → ℕ → ℕ → List (List ℕ)
-version_record net link version = codes "version" ∷ link_name_at net link ∷ decimal version ∷ [] ∷ [] ∷ []
-
-abbrev pub row_record : Net → ℕ → Row → List (List ℕ)
-row_record net link row = codes "row" ∷ link_name_at net link ∷ decimal row.second ∷ decimal row.amount ∷ [] ∷ []
-
--- the records of a link's board
-abbrev pub board_records : Net → ℕ → LinkBoard → List (List (List ℕ))
-board_records net link board = version_record net link board.version ∷ map (row_record net link) board.forecast
 
 -- whether a node tells another one on a link
 abbrev pub is_told : Net → ℕ → Bool
@@ -66,10 +50,13 @@ board_records_of net node boards link = if is_shown net node link then board_rec
 abbrev pub boards_records : Net → Option ℕ → List LinkBoard → List (List (List ℕ))
 boards_records net node boards = flat_map (board_records_of net node boards) (range_with_len 0 (length net.link_names))
 
--- The records of a decision of a round: the header; the turn of each node; and the boards.
+-- the records of what a decision of a round tells: of the turn of each node, and of the boards
+abbrev pub told_records : Net → ℕ → Decision → List (List (List ℕ))
+told_records net round d = flat_map (λ plan. turn_records net (begin_of net round) plan (decided_line d plan.node)) d.plans ++ boards_records net None d.boards
+
+-- the records of a decision of a round: the header, and those of what it tells
 abbrev pub decision_records : Net → ℕ → Decision → List (List (List ℕ))
-decision_records net round d =
-    header ∷ flat_map (λ plan. turn_records net (begin_of net round) plan (decided_line d plan.node)) d.plans ++ boards_records net None d.boards
+decision_records net round d = header ∷ told_records net round d
 
 -- The records of what one node decides: the header; its turn; and the boards of the links on which it tells another one.
 abbrev pub node_decision_records : Net → ℕ → ℕ → NodeDecision → List (List (List ℕ))

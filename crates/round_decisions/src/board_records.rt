@@ -1,7 +1,8 @@
 //! The records of boards.
 ghost use Rattle.std.specs.Prelude.{◌≡◌, ◌<◌, [], ◌∷◌, IfSome, OnOk, if◌then◌else◌, length, map};
 ghost use Rattle.std.specs.List.{flat_map, range_with_len};
-ghost use Rattle.round_decisions.specs.{DecisionTexts.board_records, DecisionTexts.board_records_of, DecisionTexts.boards_records, DecisionTexts.is_shown, DecisionTexts.row_record, DecisionTexts.version_record, Turns.board_of};
+ghost use Rattle.round_decisions.specs.{DecisionTexts.board_records_of, DecisionTexts.boards_records, DecisionTexts.is_shown, Turns.board_of};
+ghost use Rattle.round_states.specs.StateRecords.{board_records, row_record, version_record};
 ghost use Rattle.world_records.specs.Written.{Adds};
 
 use board_model::Row;
@@ -61,7 +62,7 @@ fn write_board(
 }
 
 /// Whether this node tells another one on a link, or, with no node, any does.
-fn is_shown(net: &Network, node: Option<u32>, link: u32) -> bool
+pub(crate) fn is_shown(net: &Network, node: Option<u32>, link: u32) -> bool
     requires { link < length net.now.link_names }
     ensures { result ≡ is_shown net.now node link }
 {

@@ -5,6 +5,7 @@
 mod board_records;
 mod decision_texts;
 mod decisions;
+mod kept_decisions;
 mod laws;
 mod lines;
 mod node_turns;
@@ -13,5 +14,6 @@ mod turn_records;
 
 pub use decision_texts::{decision_text, node_decision_text};
 pub use decisions::{Decision, NodeDecision, decide, decide_node};
+pub use kept_decisions::keep_decision;
 pub use laws::{law_of_chains, law_of_decisions, law_of_origins, law_of_own_turns};
 pub use lines::rows_from;

@@ -1,6 +1,7 @@
 //! The records of the turns of nodes.
 ghost use Rattle.std.specs.Prelude.{◌≡◌, ◌<◌, [], ◌∷◌, OnOk, length, map};
-ghost use Rattle.round_decisions.specs.DecisionTexts.{IsPlanOf, green_record, plan_record, turn_records};
+ghost use Rattle.round_decisions.specs.DecisionTexts.{IsPlanOf, plan_record, turn_records};
+ghost use Rattle.round_states.specs.StateRecords.{green_record};
 ghost use Rattle.world_records.specs.Written.{Adds};
 
 use crate::lines::rows_from;

@@ -1,6 +1,6 @@
 use Rattle.std.proofs.Common.{List, [], ◌∷◌, OnOk, map, subst}
 use Rattle.board_model.specs.declared.forecasts.Row.{Row}
-use Rattle.round_decisions.specs.DecisionTexts.{row_record, version_record}
+use Rattle.round_states.specs.StateRecords.{row_record, version_record}
 use Rattle.round_decisions.proofs.DecisionTextLaws.{adds-last}
 use Rattle.round_decisions.proofs.board_records.write_board.Goals as goal
 use Rattle.world_records.specs.Written.{Adds}

@@ -2,7 +2,8 @@ use Rattle.std.proofs.Common.{◌∙◌, [], length, if◌then◌else◌, subst,
 use Rattle.std.proofs.lemmas.List.{get_or_default}
 use Rattle.round_decisions.specs.Turns.{no_board}
 use Rattle.round_states.specs.declared.states.LinkBoard.{LinkBoard}
-use Rattle.round_decisions.specs.DecisionTexts.{board_records, board_records_of, is_shown}
+use Rattle.round_decisions.specs.DecisionTexts.{board_records_of, is_shown}
+use Rattle.round_states.specs.StateRecords.{board_records}
 use Rattle.world_records.specs.Written.{Adds}
 use Rattle.world_records.proofs.WrittenLaws.{adds-part, adds-parts}
 use Rattle.round_decisions.proofs.board_records.write_boards.Goals as goal

@@ -1,5 +1,5 @@
 use Rattle.std.proofs.Common.{map, take}
-use Rattle.round_decisions.specs.DecisionTexts.{row_record}
+use Rattle.round_states.specs.StateRecords.{row_record}
 use Rattle.world_records.specs.Written.{Adds}
 use Rattle.round_decisions.proofs.board_records.write_rows.Given as goal
 

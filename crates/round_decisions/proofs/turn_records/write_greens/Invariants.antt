@@ -1,5 +1,5 @@
 use Rattle.std.proofs.Common.{map, take}
-use Rattle.round_decisions.specs.DecisionTexts.{green_record}
+use Rattle.round_states.specs.StateRecords.{green_record}
 use Rattle.world_records.specs.Written.{Adds}
 use Rattle.round_decisions.proofs.turn_records.write_greens.Given as goal
 

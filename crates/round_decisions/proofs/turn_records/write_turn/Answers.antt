@@ -1,7 +1,8 @@
 use Rattle.std.proofs.Common.{List, [], ◌∷◌, OnOk, map, subst}
 use Rattle.control_flow.specs.declared.greens.Green.{Green}
 use Rattle.round_decisions.specs.Lines.{rows_from}
-use Rattle.round_decisions.specs.DecisionTexts.{green_record, plan_record}
+use Rattle.round_decisions.specs.DecisionTexts.{plan_record}
+use Rattle.round_states.specs.StateRecords.{green_record}
 use Rattle.round_decisions.proofs.DecisionTextLaws.{adds-last}
 use Rattle.round_decisions.proofs.turn_records.write_turn.Goals as goal
 use Rattle.world_records.specs.Written.{Adds}
