@@ -1,8 +1,8 @@
 -- Lines of a state, gathered one after another; names between commas; and what is decided of them.
 use Rattle.std.proofs.Common.{◌≡◌, ◌≢◌, ℕ, ◌+◌, ◌-◌, ◌<◌, ◌≤◌, true, false, nat_eq, List, [], ◌∷◌, ◌++◌, Option, Some, None, Result, Ok, Err, length, take, drop, refl, sym, ap, ◌∙◌, subst, arith, append-nil, append_assoc, length-append}
-use Rattle.std.specs.Prelude.{All, IfErr, is_some}
-use Rattle.std.specs.List.{AllZip, concat, slice_split}
-use Rattle.std.specs.Option.{option_map_or}
+use Rattle.std.specs.Prelude.{All, Bool, IfErr, codes, if◌then◌else◌, is_some}
+use Rattle.std.specs.Str.{bytes_eq}
+use Rattle.std.specs.List.{AllZip, concat}
 use Rattle.std.proofs.lemmas.Bool.{ne_eqb}
 use Rattle.std.proofs.lemmas.List.{drop_more, length-drop, length-take, take-append-drop, take_all}
 use Rattle.std.proofs.lemmas.List.Elements.{All-cons, All-nil}
@@ -14,17 +14,17 @@ use Rattle.outside_world.specs.declared.source.LineRead.TheVariants as read
 use Rattle.net_parts.specs.Numbers.{Net, number_of}
 use Rattle.round_states.specs.declared.asked.Asked.TheVariants.{OneNode}
 use Rattle.text_faults.specs.declared.bad_texts.BadText.TheVariants.{Long}
-use Rattle.commands.specs.Kinds.{StateText}
+use Rattle.commands.specs.Kinds.{Kind, StateText}
 use Rattle.commands.specs.Limits.{most_bytes}
 use Rattle.commands.specs.declared.refusals.Named.TheVariants.{Factor, Node, Round}
 use Rattle.commands.specs.declared.refusals.Refusal.{Refusal}
 use Rattle.commands.specs.declared.refusals.Refusal.TheVariants as refusal
 use Rattle.commands.specs.declared.refusals.TextPlace.TheVariants.{First, Second, Third}
 use Rattle.controller_jobs.specs.Gathering.{AskedText, HasDecided, HasLine, IsFirstComma, IsOf, IsTextOf, IsTooMuch, OrNoMemory, request_of}
-use Rattle.controller_jobs.specs.Requests.{asked_by, names_in}
+use Rattle.controller_jobs.specs.Requests.{Asks, OfAll, OfNames, OfNext, asked_by, by_names, names_after_end, names_in}
 use Rattle.controller_jobs.specs.declared.requests.Lost.{Lost}
 use Rattle.controller_jobs.specs.declared.requests.Lost.TheVariants as lost
-use Rattle.controller_jobs.specs.Serving.{IsDecidedFor, IsFirstRefused, IsNodeDecided, IsNodeRefused, IsRefused, IsRefusedFor, IsUnread, IsWhy}
+use Rattle.controller_jobs.specs.Serving.{IsDecidedFor, IsFirstRefused, IsNodeDecided, IsNodeRefused, IsRefused, IsRefusedFor, IsUnread, IsWhy, NextText, Records}
 
 -- one line more
 pub more-lines : (lines : List (List ℕ)) (whole : List ℕ) → 0 < length (lines ++ whole ∷ [])
@@ -90,8 +90,8 @@ module _ (net : Net) (text : List ℕ) (names : List (List ℕ)) where
     whole = e ∙ ap (λ (l : List ℕ). l ++ part) has.whole ∙ sym (concat-more has.parts part);
   }
 
-  pub decided-all : (all : List ℕ) → HasDecided net text names [] all → IsDecidedFor net text (Some names) all
-  decided-all all has = (has.parts, subst (λ (l : List (List ℕ)). AllZip (IsNodeDecided net text) l has.parts) (sym (has.are ∙ append-nil has.before)) has.each, has.whole)
+  pub decided-all : (told : Records) (all : List ℕ) → HasDecided net text names [] all → IsDecidedFor net told text (OfNames names) all
+  decided-all told all has = (has.parts, subst (λ (l : List (List ℕ)). AllZip (IsNodeDecided net text) l has.parts) (sym (has.are ∙ append-nil has.before)) has.each, has.whole)
 
   each-decided : (before parts : List (List ℕ)) → AllZip (IsNodeDecided net text) before parts → All (λ other. (bytes : List ℕ) × IsNodeDecided net text other bytes) before
   each-decided [] [] all = All-nil _
@@ -119,10 +119,16 @@ if-err (Ok value) P Q more is = tt
 if-err (Err why) P Q more is = more why is
 
 -- why a text is refused has a line
+line-of : (kind : Kind) (text : List ℕ) (why : Refusal) → OrNoMemory (IsRefused kind text) why → HasLine why
+line-of kind text refusal.NoMemory is = tt
+line-of kind text (refusal.Bad Second why) is = tt
+line-of kind text _ is = absurd is
+
 pub line-all : (net : Net) (text : List ℕ) (why : Refusal) → OrNoMemory (IsRefused (StateText net) text) why → HasLine why
-line-all net text refusal.NoMemory is = tt
-line-all net text (refusal.Bad Second why) is = tt
-line-all net text _ is = absurd is
+line-all net text = line-of (StateText net) text
+
+pub line-next : (net : Net) (told : Records) (text : List ℕ) (why : Refusal) → OrNoMemory (IsRefused (NextText net told) text) why → HasLine why
+line-next net told text = line-of (NextText net told) text
 
 line-node : (net : Net) (text name : List ℕ) (why : Refusal) → IsNodeRefused net text name why → HasLine why
 line-node net text name (refusal.Bad Second why) is = tt
@@ -142,11 +148,19 @@ line-names net text names (refusal.Missing Node) is = tt
 line-names net text names (refusal.Missing Round) is = absurd is.refused
 line-names net text names (refusal.Missing Factor) is = absurd is.refused
 
+-- whom the line that ends a request asks
+pub asks-next : (last : List ℕ) → bytes_eq (take 4 last) (codes "next") ≡ true → OfNext ≡ asked_by last
+asks-next last e = ap (λ (b : Bool). if b then OfNext else by_names (names_after_end last)) (sym e)
+
+pub asks-names : (last : List ℕ) (names : Option (List ℕ)) → bytes_eq (take 4 last) (codes "next") ≡ false → names ≡ names_after_end last → by_names names ≡ asked_by last
+asks-names last names e f = ap by_names f ∙ ap (λ (b : Bool). if b then OfNext else by_names (names_after_end last)) (sym e)
+
 -- and is why a request with this text is
-pub why-of : (net : Net) (text last : List ℕ) (lines : List (List ℕ)) (asked : Option (List (List ℕ))) (why : Refusal) → text ≡ concat lines → asked ≡ asked_by last → length text ≤ most_bytes
-    → OrNoMemory (IsRefusedFor net text asked) why → IsWhy net (request_of lines last) why
-why-of net text last lines asked refusal.NoMemory e f within is = tt
-why-of net text last lines None (refusal.Bad Second Long) e f within is = absurd (omega (arith, within, is.1))
-why-of net text last lines (Some names) (refusal.Bad Second Long) e f within is = absurd (omega (arith, within, is.refused.1))
-why-of net text last lines asked why e f within is =
-    subst (λ (t : List ℕ). OrNoMemory (IsRefusedFor net t (asked_by last)) why) e (subst (λ (a : Option (List (List ℕ))). OrNoMemory (IsRefusedFor net text a) why) f is)
+pub why-of : (net : Net) (told : Records) (text last : List ℕ) (lines : List (List ℕ)) (asks : Asks) (why : Refusal) → text ≡ concat lines → asks ≡ asked_by last → length text ≤ most_bytes
+    → OrNoMemory (IsRefusedFor net told text asks) why → IsWhy net told (request_of lines last) why
+why-of net told text last lines asks refusal.NoMemory e f within is = tt
+why-of net told text last lines OfAll (refusal.Bad Second Long) e f within is = absurd (omega (arith, within, is.1))
+why-of net told text last lines OfNext (refusal.Bad Second Long) e f within is = absurd (omega (arith, within, is.1))
+why-of net told text last lines (OfNames names) (refusal.Bad Second Long) e f within is = absurd (omega (arith, within, is.refused.1))
+why-of net told text last lines asks why e f within is =
+    subst (λ (t : List ℕ). OrNoMemory (IsRefusedFor net told t (asked_by last)) why) e (subst (λ (a : Asks). OrNoMemory (IsRefusedFor net told text a) why) f is)

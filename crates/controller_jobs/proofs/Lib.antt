@@ -3,3 +3,4 @@ mod FactorLaws
 mod GatherLaws
 mod LineLaws
 mod ServeLaws
+pub mod NextLaws

@@ -1,13 +1,12 @@
 -- How requests are answered one after another, and how that ends.
-use Rattle.std.proofs.Common.{◌≡◌, ℕ, ◌+◌, ◌-◌, ◌^◌, List, [], ◌∷◌, ◌++◌, Option, Some, None, Result, Ok, Err, length, take, refl, sym, ap, ◌∙◌, subst, arith, append-nil, append_assoc, length-append, inl, inr}
-use Rattle.std.specs.Prelude.{◌⊎◌, IfErr, IsSome}
+use Rattle.std.proofs.Common.{◌≡◌, ℕ, ◌+◌, ◌-◌, ◌^◌, ◌≤◌, List, [], ◌∷◌, ◌++◌, Option, Some, None, Result, Ok, Err, length, take, refl, sym, ap, ◌∙◌, subst, arith, append-nil, append_assoc, length-append, inl, inr}
+use Rattle.std.specs.Prelude.{◌⊎◌, IfErr, IsSome, OnOk}
 use Rattle.std.specs.Io.KnownBytes.{IsAtEnd, append_known}
 use Rattle.std.specs.List.{concat, flat_map}
 use Rattle.std.proofs.lemmas.Grind.{flat_map-append}
 use Rattle.std.proofs.lemmas.List.{take-take}
 use Rattle.std.proofs.lemmas.List.Elements.{All-append, All-cons, All-nil}
 use Rattle.std.proofs.lemmas.List.Folds.{concat-append}
-use Rattle.std.proofs.lemmas.Slice.Zip.{all_zipped_more}
 use Rattle.outside_world.specs.Shelf.{Files, GainsLast, ShelfState}
 use Rattle.outside_world.specs.Sink.{Breaks, Gains, Rose, SinkState, one_more}
 use Rattle.outside_world.specs.Source.{Comes, SourceState}
@@ -28,34 +27,53 @@ use Rattle.commands.specs.declared.status.Status.{Status}
 use Rattle.commands.specs.declared.status.Status.TheVariants.{Done, BadInput, ReadFault, WriteFault, NoMemory}
 use Rattle.controller_jobs.specs.Gathering.{EndsServing, IsAnswered, IsAnsweredAll, IsGathered, IsHeard, IsOf, IsPut, IsServing, IsUntaken, request_of}
 use Rattle.controller_jobs.specs.Requests.{AllCome, EndsRequest, IsRequest, Request, lines_of}
-use Rattle.controller_jobs.specs.Serving.{AreAnswered, HasEnded, IsAnswer, IsBrokenOff, IsCutOff, IsServed, Serves, answer_to_others}
+use Rattle.controller_jobs.specs.Serving.{AreAnswered, AreAnswers, HasEnded, IsAnswer, IsBrokenOff, IsCutOff, IsServed, Records, Serves, answer_to_others}
 use Rattle.controller_jobs.specs.declared.requests.Gathered.{Gathered}
+use Rattle.round_states.specs.NextTexts.{AreKept}
+use Rattle.round_states.specs.declared.kept_records.KeptRecords.{KeptRecords}
 
 -- what is read of a line has its front
-same-front : (line : List ℕ) (r : LineRead) (kept : List ℕ) → IsOf line r kept → take 4 kept ≡ take 4 line
-same-front line read.End kept is = absurd is
-same-front line read.Whole kept is = ap (take 4) is
-same-front line read.Part kept is = ap (take 4) is.front ∙ take-take 4 (length kept) line is.long
+same-front : (n : ℕ) → n ≤ 5 → (line : List ℕ) (r : LineRead) (kept : List ℕ) → IsOf line r kept → take n kept ≡ take n line
+same-front n short line read.End kept is = absurd is
+same-front n short line read.Whole kept is = ap (take n) is
+same-front n short line read.Part kept is = ap (take n) is.front ∙ take-take n (length kept) line (let long = is.long in omega arith)
 
 pub ends-whole : (line : List ℕ) (r : LineRead) (kept : List ℕ) → IsOf line r kept → EndsRequest kept → EndsRequest line
-ends-whole line r kept is ends = let e = same-front line r kept is in elim ends [
-  | inl feed ↦ inl (sym e ∙ feed)
-  | inr (inl comma) ↦ inr (inl (sym e ∙ comma))
-  | inr (inr alone) ↦ inr (inr (sym e ∙ alone))
+ends-whole line r kept is ends = let e = same-front 4 (omega arith) line r kept is in let five = same-front 5 (omega arith) line r kept is in elim ends [
+  | inl (inl feed) ↦ inl (inl (sym e ∙ feed))
+  | inl (inr (inl comma)) ↦ inl (inr (inl (sym e ∙ comma)))
+  | inl (inr (inr alone)) ↦ inl (inr (inr (sym e ∙ alone)))
+  | inr (inl feed) ↦ inr (inl (sym five ∙ feed))
+  | inr (inr alone) ↦ inr (inr (sym five ∙ alone))
 ]
 
 pub ends-kept : (line : List ℕ) (r : LineRead) (kept : List ℕ) → IsOf line r kept → EndsRequest line → EndsRequest kept
-ends-kept line r kept is ends = let e = same-front line r kept is in elim ends [
-  | inl feed ↦ inl (e ∙ feed)
-  | inr (inl comma) ↦ inr (inl (e ∙ comma))
-  | inr (inr alone) ↦ inr (inr (e ∙ alone))
+ends-kept line r kept is ends = let e = same-front 4 (omega arith) line r kept is in let five = same-front 5 (omega arith) line r kept is in elim ends [
+  | inl (inl feed) ↦ inl (inl (e ∙ feed))
+  | inl (inr (inl comma)) ↦ inl (inr (inl (e ∙ comma)))
+  | inl (inr (inr alone)) ↦ inl (inr (inr (e ∙ alone)))
+  | inr (inl feed) ↦ inr (inl (five ∙ feed))
+  | inr (inr alone) ↦ inr (inr (five ∙ alone))
 ]
 
 -- an answer that could not be written whole
-pub heard-broken : (net : Net) (lines : List (List ℕ)) (line : List ℕ) (after : Gathered) (out out' : SinkState) (answer : List ℕ) (why : Refusal) → EndsRequest line → IsAnswer net (request_of lines line) answer → IsPut answer out out' (Err why)
-    → IsHeard net lines line after out out' (Err why)
-heard-broken net lines line after out out' answer refusal.Unwritten ends is put = (answer, record { ends = ends; is = is }, put)
-heard-broken net lines line after out out' answer _ ends is put = absurd put
+pub heard-broken : (net : Net) (told : Records) (lines : List (List ℕ)) (line : List ℕ) (after : Gathered) (kept : KeptRecords) (out out' : SinkState) (answer : List ℕ) (last : Records) (why : Refusal) → EndsRequest line → IsAnswer net told (request_of lines line) answer last → IsPut answer out out' (Err why)
+    → IsHeard net told lines line after kept out out' (Err why)
+heard-broken net told lines line after kept out out' answer last refusal.Unwritten ends is put = (answer, last, record { ends = ends; is = is }, put)
+heard-broken net told lines line after kept out out' answer last _ ends is put = absurd put
+
+-- one answer more
+answers-more : (net : Net) (first : Records) (requests : List Request) (answers : List (List ℕ)) (told : Records) (request : Request) (answer : List ℕ) (last : Records) → AreAnswers net first requests answers told → IsAnswer net told request answer last
+    → AreAnswers net first (requests ++ request ∷ []) (answers ++ answer ∷ []) last
+answers-more net first [] [] told request answer last are is = (last, subst (λ (t : Records). IsAnswer net t request answer last) are is, refl)
+answers-more net first [] (a ∷ answers) told request answer last are is = absurd are
+answers-more net first (r ∷ requests) [] told request answer last are is = absurd are
+answers-more net first (r ∷ requests) (a ∷ answers) told request answer last are is = (are.0, are.1, answers-more net are.0 requests answers told request answer last are.2 is)
+
+-- what holds in any case holds where there is a value
+pub on-ok : {T E P : Type 0} (result : Result T E) → P → OnOk result P
+on-ok (Ok value) is = is
+on-ok (Err why) is = tt
 
 -- bytes after others
 both : (known : Option (List ℕ)) (a b : List ℕ) → append_known (append_known known a) b ≡ append_known known (a ++ b)
@@ -85,18 +103,19 @@ nothing s = ap (λ w. record { written = w; faults = s.faults }) (none s.written
 
 module _ (net : Net) (from : SourceState) (out : SinkState) where
   -- nothing came yet
-  pub serving-none : (g : Gathered) → IsGathered [] g → IsServing net from from out out g 0
-  serving-none g is = record {
+  pub serving-none : (g : Gathered) (kept : KeptRecords) → IsGathered [] g → AreKept net [] kept → IsServing net from from out out g kept 0
+  serving-none g kept is told = record {
     lines = [];
     others = [];
     answers = [];
-    answered = record { come = refl; requests = []; are = record { are = refl; each = All-nil IsRequest; rest = All-nil (λ line. ¬ EndsRequest line) }; each = tt };
+    answered = record { come = refl; requests = []; are = record { are = refl; each = All-nil IsRequest; rest = All-nil (λ line. ¬ EndsRequest line) }; told = []; each = refl };
     gathered = is;
+    told = told;
     written = nothing out;
     counted = refl;
   }
 
-  module _ (now next : SourceState) (mid out' : SinkState) (g after : Gathered) (count : ℕ) (line : List ℕ) (so_far : IsServing net from now out mid g count) (comes : Comes now next line) where
+  module _ (now next : SourceState) (mid out' : SinkState) (g after : Gathered) (k kept : KeptRecords) (count : ℕ) (line : List ℕ) (so_far : IsServing net from now out mid g k count) (comes : Comes now next line) where
     counted-more : length (so_far.lines ++ line ∷ []) ≡ count + 1
     counted-more = length-append so_far.lines (line ∷ []) ∙ ap (λ (n : ℕ). n + 1) so_far.counted
 
@@ -104,8 +123,8 @@ module _ (net : Net) (from : SourceState) (out : SinkState) where
     come = come-more from so_far.lines now next line so_far.answered.come comes
 
     -- a line of a state
-    goes-on : ¬ EndsRequest line → IsGathered (so_far.others ++ line ∷ []) after → out' ≡ mid → IsServing net from next out out' after (count + 1)
-    goes-on other is same = record {
+    goes-on : ¬ EndsRequest line → IsGathered (so_far.others ++ line ∷ []) after → AreKept net so_far.answered.told kept → out' ≡ mid → IsServing net from next out out' after kept (count + 1)
+    goes-on other is told same = record {
       lines = so_far.lines ++ line ∷ [];
       others = so_far.others ++ line ∷ [];
       answers = so_far.answers;
@@ -117,9 +136,11 @@ module _ (net : Net) (from : SourceState) (out : SinkState) where
           each = so_far.answered.are.each;
           rest = All-append (λ l. ¬ EndsRequest l) so_far.others (line ∷ []) so_far.answered.are.rest (All-cons (λ l. ¬ EndsRequest l) line [] other (All-nil (λ l. ¬ EndsRequest l)));
         };
+        told = so_far.answered.told;
         each = so_far.answered.each;
       };
       gathered = is;
+      told = told;
       written = subst (λ (s : SinkState). Gains out s (concat so_far.answers)) (sym same) so_far.written;
       counted = counted-more;
     }
@@ -128,8 +149,8 @@ module _ (net : Net) (from : SourceState) (out : SinkState) where
     abbrev one : Request
     one = request_of so_far.others line
 
-    answered-more : (answer : List ℕ) → IsAnswered net so_far.others line answer → AreAnswered net from next (so_far.lines ++ line ∷ []) [] (so_far.answers ++ answer ∷ [])
-    answered-more answer is = record {
+    answered-more : (answer : List ℕ) (last : Records) → IsAnswered net so_far.answered.told so_far.others line answer last → AreAnswered net from next (so_far.lines ++ line ∷ []) [] (so_far.answers ++ answer ∷ [])
+    answered-more answer last is = record {
       come = come;
       requests = so_far.answered.requests ++ one ∷ [];
       are = record {
@@ -139,45 +160,48 @@ module _ (net : Net) (from : SourceState) (out : SinkState) where
         each = All-append IsRequest so_far.answered.requests (one ∷ []) so_far.answered.are.each (All-cons IsRequest one [] (record { lines = so_far.answered.are.rest; last = is.ends }) (All-nil IsRequest));
         rest = All-nil (λ l. ¬ EndsRequest l);
       };
-      each = all_zipped_more (IsAnswer net) so_far.answered.requests so_far.answers one answer so_far.answered.each is.is;
+      told = last;
+      each = answers-more net [] so_far.answered.requests so_far.answers so_far.answered.told one answer last so_far.answered.each is.is;
     }
 
     joined : (answer : List ℕ) → concat so_far.answers ++ answer ≡ concat (so_far.answers ++ answer ∷ [])
     joined answer = ap (λ (l : List ℕ). concat so_far.answers ++ l) (sym (append-nil answer)) ∙ sym (concat-append so_far.answers (answer ∷ []))
 
     -- a request was answered
-    answers-one : IsGathered [] after → (answer : List ℕ) → IsAnswered net so_far.others line answer → Gains mid out' answer → IsServing net from next out out' after (count + 1)
-    answers-one is answer answered gains = record {
+    answers-one : IsGathered [] after → (answer : List ℕ) (last : Records) → IsAnswered net so_far.answered.told so_far.others line answer last → AreKept net last kept → Gains mid out' answer → IsServing net from next out out' after kept (count + 1)
+    unfolding answered-more
+    answers-one is answer last answered told gains = record {
       lines = so_far.lines ++ line ∷ [];
       others = [];
       answers = so_far.answers ++ answer ∷ [];
-      answered = answered-more answer answered;
+      answered = answered-more answer last answered;
       gathered = is;
+      told = told;
       written = subst (Gains out out') (joined answer) (gains-more out mid out' (concat so_far.answers) answer so_far.written gains);
       counted = counted-more;
     }
 
-    pub serving-more : (done : Unit {0}) → IsHeard net so_far.others line after mid out' (Ok done) → IsServing net from next out out' after (count + 1)
+    pub serving-more : (done : Unit {0}) → IsHeard net so_far.answered.told so_far.others line after kept mid out' (Ok done) → IsServing net from next out out' after kept (count + 1)
     serving-more done heard = elim heard [
-      | inl (other, gathered, same) ↦ goes-on other gathered same
-      | inr (gathered, (answer, answered, gains)) ↦ answers-one gathered answer answered gains
+      | inl (other, gathered, told, same) ↦ goes-on other gathered told same
+      | inr (gathered, (answer, last, answered, told, gains)) ↦ answers-one gathered answer last answered told gains
     ]
 
     -- or its answer could not be written whole
-    pub serving-broken : (why : Refusal) → IsHeard net so_far.others line after mid out' (Err why) → IsAnsweredAll net from next out out' (Err why)
-    serving-broken refusal.Unwritten (answer, answered, breaks) = record {
+    pub serving-broken : (why : Refusal) → IsHeard net so_far.answered.told so_far.others line after kept mid out' (Err why) → IsAnsweredAll net from next out out' (Err why)
+    serving-broken refusal.Unwritten (answer, last, answered, breaks) = record {
       lines = so_far.lines ++ line ∷ [];
       others = [];
       answers = so_far.answers;
       last = answer;
-      is = answered-more answer answered;
+      is = answered-more answer last answered;
       middle = mid;
       before = so_far.written;
       breaks = breaks;
     }
     serving-broken _ heard = absurd heard
 
-  module _ (now : SourceState) (mid : SinkState) (g : Gathered) (count : ℕ) (so_far : IsServing net from now out mid g count) where
+  module _ (now : SourceState) (mid : SinkState) (g : Gathered) (k : KeptRecords) (count : ℕ) (so_far : IsServing net from now out mid g k count) where
     ends-all : IsAtEnd now.left ⊎ (count ≡ 2 ^ 64 - 1) → HasEnded now so_far.lines
     ends-all ended = elim ended [ inl end ↦ inl end | inr all ↦ inr (so_far.counted ∙ all) ]
 

@@ -1,5 +1,5 @@
 -- What is gathered of a request while its lines come, and how each is answered. No public clause names anything here.
-use Rattle.std.specs.Prelude.{◌≡◌, ◌≢◌, ℕ, ◌<◌, ◌+◌, All, Bool, true, false, List, [], ◌∷◌, ◌++◌, Option, Some, None, Result, Ok, Err, length, slice_index_or, take, ◌⊎◌}
+use Rattle.std.specs.Prelude.{◌≡◌, ◌≢◌, ℕ, ◌<◌, ◌+◌, All, Bool, true, false, List, [], ◌∷◌, ◌++◌, Option, Some, None, Result, Ok, Err, IsSomeAnd, OnOk, length, slice_index_or, take, ◌⊎◌}
 use Rattle.std.specs.List.{AllZip, concat}
 use Rattle.std.specs.Io.KnownBytes.{IsAtEnd}
 use Rattle.outside_world.specs.Sink.{Breaks, Gains, SinkState, one_more}
@@ -7,20 +7,26 @@ use Rattle.outside_world.specs.Source.{Comes, IsFront, SourceState}
 use Rattle.outside_world.specs.declared.source.LineRead.{LineRead}
 use Rattle.outside_world.specs.declared.source.LineRead.TheVariants as read
 use Rattle.net_parts.specs.Numbers.{Net}
+use Rattle.round_states.specs.NextTexts.{AreKept}
+use Rattle.round_states.specs.StateRecords.{header}
 use Rattle.round_states.specs.Texts.{IsStateText}
 use Rattle.round_states.specs.declared.asked.Asked.{Asked}
 use Rattle.round_states.specs.declared.states.RoundState.{RoundState}
+use Rattle.round_states.specs.declared.kept_records.KeptRecords.{KeptRecords}
+use Rattle.record_text.specs.Records.{records_of}
 use Rattle.commands.specs.Kinds.{IsBadState, Kind}
 use Rattle.commands.specs.Limits.{most_bytes}
 use Rattle.commands.specs.Refusals.{Says}
+use Rattle.commands.specs.Rounds.{IsDecisionText}
 use Rattle.commands.specs.declared.refusals.Named.TheVariants.{Node}
 use Rattle.commands.specs.declared.refusals.Refusal.{Refusal}
 use Rattle.commands.specs.declared.refusals.Refusal.TheVariants as refusal
 use Rattle.commands.specs.declared.refusals.TextPlace.TheVariants.{Second}
 use Rattle.commands.specs.declared.status.Status.{Status}
 use Rattle.commands.specs.declared.status.Status.TheVariants.{Done, NoMemory, ReadFault, WriteFault}
-use Rattle.controller_jobs.specs.Requests.{EndsRequest, Request}
-use Rattle.controller_jobs.specs.Serving.{AreAnswered, IsAnswer, IsBrokenOff, IsCutOff, IsNodeDecided, IsServed}
+use Rattle.controller_jobs.specs.Requests.{Asks, EndsRequest, Request}
+use Rattle.controller_jobs.specs.Serving.{AreAnswered, AreToldBy, IsAnswer, IsBrokenOff, IsCutOff, IsDecidedFor, IsNodeDecided, IsServed, Records}
+use Rattle.controller_jobs.specs.declared.decide.Reply.{Reply}
 use Rattle.controller_jobs.specs.declared.requests.Gathered.{Gathered}
 use Rattle.controller_jobs.specs.declared.requests.Lost.{Lost}
 use Rattle.controller_jobs.specs.declared.requests.Lost.TheVariants as lost
@@ -29,7 +35,7 @@ use Rattle.controller_jobs.specs.declared.requests.Lost.TheVariants as lost
 abbrev pub IsOf : List ℕ → LineRead → List ℕ → Type 0
 IsOf line read.End kept = ⊥
 IsOf line read.Whole kept = kept ≡ line
-IsOf line read.Part kept = IsFront line 4 kept
+IsOf line read.Part kept = IsFront line 5 kept
 
 -- lines of a state are gathered as a text, or are lost: they are too long, or there was no memory for them
 abbrev pub IsTextOf : List (List ℕ) → Option Lost → List ℕ → Type 0
@@ -81,24 +87,53 @@ pub record HasDecided (net : Net) (text : List ℕ) (names left : List (List ℕ
   pub whole : all ≡ concat parts
 
 -- a request was answered
-pub record IsAnswered (net : Net) (lines : List (List ℕ)) (last : List ℕ) (answer : List ℕ) : Type 0 where
+pub record IsAnswered (net : Net) (told : Records) (lines : List (List ℕ)) (last : List ℕ) (answer : List ℕ) (after : Records) : Type 0 where
   pub ends : EndsRequest last
-  pub is : IsAnswer net (request_of lines last) answer
+  pub is : IsAnswer net told (request_of lines last) answer after
 
--- A further line was heard: it is one of a state, and is gathered; or it ends a request, whose answer was written. Or the answer could not
--- be written whole.
-abbrev pub IsHeard : Net → List (List ℕ) → List ℕ → Gathered → SinkState → SinkState → Result (Unit {0}) Refusal → Type 0
-IsHeard net lines line after out out' (Ok done) =
-    ((¬ EndsRequest line) × IsGathered (lines ++ line ∷ []) after × (out' ≡ out))
-    ⊎ (IsGathered [] after × ((answer : List ℕ) × IsAnswered net lines line answer × Gains out out' answer))
-IsHeard net lines line after out out' (Err refusal.Unwritten) = (answer : List ℕ) × IsAnswered net lines line answer × Breaks out out' answer
-IsHeard net lines line after out out' (Err _) = ⊥
+-- what is told last after an answer: that of which this is kept, or what was told before where nothing is
+abbrev pub AreKeptAfter : Net → Records → Option KeptRecords → Records → Type 0
+AreKeptAfter net told None after = after ≡ told
+AreKeptAfter net told (Some kept) after = AreKept net after kept
+
+-- all nodes decide this in the round of a state, and what it tells is kept
+pub record IsDecidedIn (net : Net) (state : RoundState) (reply : Reply) : Type 0 where
+  pub text : IsDecisionText net state reply.text.items
+  pub records : Records
+  pub are : records_of reply.text.items ≡ header ∷ records
+  pub kept : IsSomeAnd reply.kept (AreKept net records)
+
+-- this is decided of a text for those whom a request asks, and what is then told last is kept
+pub record IsReply (net : Net) (told : Records) (text : List ℕ) (asks : Asks) (reply : Reply) : Type 0 where
+  pub after : Records
+  pub decided : IsDecidedFor net told text asks reply.text.items
+  pub told_by : AreToldBy told asks reply.text.items after
+  pub kept : AreKeptAfter net told reply.kept after
+
+-- this answers a request, and what is then told last is kept
+pub record IsAnswerTo (net : Net) (told : Records) (request : Request) (answer : Reply) : Type 0 where
+  pub after : Records
+  pub is : IsAnswer net told request answer.text.items after
+  pub kept : AreKeptAfter net told answer.kept after
 
 -- a text was written, or could not be written whole
 abbrev pub IsPut : List ℕ → SinkState → SinkState → Result (Unit {0}) Refusal → Type 0
 IsPut text out out' (Ok done) = Gains out out' text
 IsPut text out out' (Err refusal.Unwritten) = Breaks out out' text
 IsPut text out out' (Err _) = ⊥
+
+-- the answer to a request was written, and what is told last is kept; or it could not be written whole
+abbrev pub IsPutFor : Net → Records → Request → KeptRecords → SinkState → SinkState → Result (Unit {0}) Refusal → Type 0
+IsPutFor net told request kept out out' result = (answer : List ℕ) × (after : Records) × IsAnswer net told request answer after × IsPut answer out out' result × OnOk result (AreKept net after kept)
+
+-- A further line was heard: it is one of a state, and is gathered; or it ends a request, whose answer was written, and what is told last is
+-- kept. Or the answer could not be written whole.
+abbrev pub IsHeard : Net → Records → List (List ℕ) → List ℕ → Gathered → KeptRecords → SinkState → SinkState → Result (Unit {0}) Refusal → Type 0
+IsHeard net told lines line g kept out out' (Ok done) =
+    ((¬ EndsRequest line) × IsGathered (lines ++ line ∷ []) g × AreKept net told kept × (out' ≡ out))
+    ⊎ (IsGathered [] g × ((answer : List ℕ) × (after : Records) × IsAnswered net told lines line answer after × AreKept net after kept × Gains out out' answer))
+IsHeard net told lines line g kept out out' (Err refusal.Unwritten) = (answer : List ℕ) × (after : Records) × IsAnswered net told lines line answer after × Breaks out out' answer
+IsHeard net told lines line g kept out out' (Err _) = ⊥
 
 -- how all requests were answered, or why not all were
 abbrev pub IsAnsweredAll : Net → SourceState → SourceState → SinkState → SinkState → Result (Unit {0}) Refusal → Type 0
@@ -132,12 +167,13 @@ pub record IsFirstComma (bytes : List ℕ) (place : ℕ) : Type 0 where
   pub here : slice_index_or bytes place 0 ≡ 44
   pub before : All (λ byte. byte ≢ 44) (take place bytes)
 
--- the requests that came so far are answered, and the lines after them are gathered
-pub record IsServing (net : Net) (from now : SourceState) (out out' : SinkState) (g : Gathered) (count : ℕ) : Type 0 where
+-- the requests that came so far are answered, the lines after them are gathered, and what is told last is kept
+pub record IsServing (net : Net) (from now : SourceState) (out out' : SinkState) (g : Gathered) (kept : KeptRecords) (count : ℕ) : Type 0 where
   pub lines : List (List ℕ)
   pub others : List (List ℕ)
   pub answers : List (List ℕ)
   pub answered : AreAnswered net from now lines others answers
   pub gathered : IsGathered others g
+  pub told : AreKept net answered.told kept
   pub written : Gains out out' (concat answers)
   pub counted : length lines ≡ count

@@ -1,5 +1,5 @@
 -- What `serve` answers to requests, and how it ends.
-use Rattle.std.specs.Prelude.{◌≡◌, ◌≢◌, ℕ, ◌-◌, ◌^◌, ◌<◌, List, [], ◌∷◌, ◌++◌, Option, Some, None, All, codes, length, ◌⊎◌}
+use Rattle.std.specs.Prelude.{◌≡◌, ◌≢◌, ℕ, ◌-◌, ◌^◌, ◌<◌, List, [], ◌∷◌, ◌++◌, Some, None, All, codes, length, ◌⊎◌}
 use Rattle.std.specs.Io.KnownBytes.{IsAtEnd}
 use Rattle.std.specs.List.{AllZip, concat}
 use Rattle.outside_world.specs.Shelf.{GainsLast}
@@ -8,7 +8,7 @@ use Rattle.outside_world.specs.Source.{SourceState}
 use Rattle.net_parts.specs.Numbers.{Net, number_of}
 use Rattle.round_states.specs.declared.states.RoundState.{RoundState}
 use Rattle.text_faults.specs.declared.bad_texts.BadText.{BadText}
-use Rattle.text_faults.specs.declared.bad_texts.BadText.TheVariants.{Long}
+use Rattle.text_faults.specs.declared.bad_texts.BadText.TheVariants.{Long, State}
 use Rattle.commands.specs.Kinds.{Kind, NetworkText, StateText, node_state_of}
 use Rattle.commands.specs.Limits.{most_bytes}
 use Rattle.commands.specs.Outcome.{Outside}
@@ -22,7 +22,12 @@ use Rattle.commands.specs.declared.refusals.TextPlace.TheVariants.{First, Second
 use Rattle.commands.specs.declared.status.Status.{Status}
 use Rattle.commands.specs.declared.status.Status.TheVariants.{Done, Rejected, Usage, BadInput, ReadFault, WriteFault, NoMemory}
 use Rattle.controller_jobs.specs.Requests as requests
-use Rattle.controller_jobs.specs.Requests.{AllCome, AreRequests, Request, asked_by}
+use Rattle.controller_jobs.specs.Requests.{AllCome, AreRequests, Asks, OfAll, OfNext, OfNames, Request, asked_by}
+use Rattle.round_states.specs.NextTexts.{IsStateTextWith, IsTextFaultWith}
+use Rattle.round_states.specs.StateRecords.{header}
+use Rattle.round_states.specs.declared.asked.Asked.TheVariants as asked
+use Rattle.round_states.specs.declared.faults.StateFault.TheVariants as state
+use Rattle.record_text.specs.Records.{records_of}
 
 -- what `decide` writes of a state's text of which it asks all nodes
 pub record IsDecided (net : Net) (text bytes : List ℕ) : Type 0 where
@@ -36,10 +41,36 @@ pub record IsNodeDecided (net : Net) (text name bytes : List ℕ) : Type 0 where
   pub read : IsReadAs (node_state_of name net) text state
   pub is : IsNodeDecisionText net state name bytes
 
--- what `decide` writes of all nodes, or of those with these names, one after another
-abbrev pub IsDecidedFor : Net → List ℕ → Option (List (List ℕ)) → List ℕ → Type 0
-IsDecidedFor net text None bytes = IsDecided net text bytes
-IsDecidedFor net text (Some names) bytes = (parts : List (List ℕ)) × AllZip (IsNodeDecided net text) names parts × (bytes ≡ concat parts)
+-- records, each with its fields
+abbrev pub Records : Type 0
+Records = List (List (List ℕ))
+
+-- the first fault of a text that tells no state where these records, which were told last, come after its own
+abbrev pub IsBadNext : Net → Records → List ℕ → BadText → Type 0
+IsBadNext net told text (State fault) = IsTextFaultWith net asked.AllNodes told text fault × (fault ≢ state.NoMemory)
+IsBadNext net told text _ = ⊥
+
+-- the kind of texts that tell the state in which a round begins where these records come after their own
+abbrev pub NextText : Net → Records → Kind
+NextText net told = record { Said = RoundState; is_text = IsStateTextWith net asked.AllNodes told; is_fault = IsBadNext net told }
+
+-- what `decide` writes of the state that a text tells where these records come after its own
+pub record IsDecidedNext (net : Net) (told : Records) (text bytes : List ℕ) : Type 0 where
+  pub state : RoundState
+  pub read : IsReadAs (NextText net told) text state
+  pub is : IsDecisionText net state bytes
+
+-- what `decide` writes of all nodes; of all, where the records that were told last come after those of the text; or of those with these names,
+-- one after another
+abbrev pub IsDecidedFor : Net → Records → List ℕ → Asks → List ℕ → Type 0
+IsDecidedFor net told text OfAll bytes = IsDecided net text bytes
+IsDecidedFor net told text OfNext bytes = IsDecidedNext net told text bytes
+IsDecidedFor net told text (OfNames names) bytes = (parts : List (List ℕ)) × AllZip (IsNodeDecided net text) names parts × (bytes ≡ concat parts)
+
+-- the records that are told last after what was decided: of all nodes its own, but for the header; of nodes by themselves those of before
+abbrev pub AreToldBy : Records → Asks → List ℕ → Records → Type 0
+AreToldBy told (OfNames names) bytes after = after ≡ told
+AreToldBy told _ bytes after = records_of bytes ≡ header ∷ after
 
 -- a text is read as nothing of its kind, and this is why
 abbrev pub IsUnread : Kind → List ℕ → BadText → Type 0
@@ -65,16 +96,18 @@ pub record IsFirstRefused (net : Net) (text : List ℕ) (names : List (List ℕ)
   pub decided : All (λ other. (bytes : List ℕ) × IsNodeDecided net text other bytes) before
   pub refused : IsNodeRefused net text name why
 
--- why `decide` refuses the text of a request: of all nodes, or of the first of the names that it refuses
-abbrev pub IsRefusedFor : Net → List ℕ → Option (List (List ℕ)) → Refusal → Type 0
-IsRefusedFor net text None why = IsRefused (StateText net) text why
-IsRefusedFor net text (Some names) why = IsFirstRefused net text names why
+-- why `decide` refuses the text of a request: of all nodes; of all, where the records that were told last come after those of the text; or
+-- of the first of the names that it refuses
+abbrev pub IsRefusedFor : Net → Records → List ℕ → Asks → Refusal → Type 0
+IsRefusedFor net told text OfAll why = IsRefused (StateText net) text why
+IsRefusedFor net told text OfNext why = IsRefused (NextText net told) text why
+IsRefusedFor net told text (OfNames names) why = IsFirstRefused net text names why
 
 -- why a request is refused: its text is too long, or `decide` refuses it; or memory ran out
-abbrev pub IsWhy : Net → Request → Refusal → Type 0
-IsWhy net request refusal.NoMemory = Unit {0}
-IsWhy net request (refusal.Bad Second Long) = most_bytes < length (requests.text_of request)
-IsWhy net request why = IsRefusedFor net (requests.text_of request) (asked_by request.last) why
+abbrev pub IsWhy : Net → Records → Request → Refusal → Type 0
+IsWhy net told request refusal.NoMemory = Unit {0}
+IsWhy net told request (refusal.Bad Second Long) = most_bytes < length (requests.text_of request)
+IsWhy net told request why = IsRefusedFor net told (requests.text_of request) (asked_by request.last) why
 
 -- the line that ends an answer, and the answer that is a refusal
 abbrev pub end_line : List ℕ
@@ -83,11 +116,18 @@ end_line = codes "end\n"
 abbrev pub refused_answer : Refusal → List ℕ
 refused_answer why = codes "refused," ++ line_of why ++ end_line
 
--- the answer to a request: what `decide` writes of it, and a line `end`; or why it is refused
-abbrev pub IsAnswer : Net → Request → List ℕ → Type 0
-IsAnswer net request answer =
-    ((bytes : List ℕ) × IsDecidedFor net (requests.text_of request) (asked_by request.last) bytes × (answer ≡ bytes ++ end_line))
-    ⊎ ((why : Refusal) × IsWhy net request why × (answer ≡ refused_answer why))
+-- the answer to a request, where records were told last, and those that are told last after it: what `decide` writes of it, and a line
+-- `end`; or why it is refused, and then they are those of before
+abbrev pub IsAnswer : Net → Records → Request → List ℕ → Records → Type 0
+IsAnswer net told request answer after =
+    ((bytes : List ℕ) × IsDecidedFor net told (requests.text_of request) (asked_by request.last) bytes × AreToldBy told (asked_by request.last) bytes after × (answer ≡ bytes ++ end_line))
+    ⊎ ((why : Refusal) × IsWhy net told request why × (after ≡ told) × (answer ≡ refused_answer why))
+
+-- the answers to requests, one after another, and the records that are told last before and after them
+abbrev pub AreAnswers : Net → Records → List Request → List (List ℕ) → Records → Type 0
+AreAnswers net told [] [] after = after ≡ told
+AreAnswers net told (request ∷ requests) (answer ∷ answers) after = (next : Records) × IsAnswer net told request answer next × AreAnswers net next requests answers after
+AreAnswers net told _ _ after = ⊥
 
 -- what is answered to lines after the last request, as the source has ended: nothing where there are none, else that they cannot be read
 abbrev pub answer_to_others : List (List ℕ) → List ℕ
@@ -99,7 +139,8 @@ pub record AreAnswered (net : Net) (from to : SourceState) (lines others answers
   pub come : AllCome from lines to
   pub requests : List Request
   pub are : AreRequests lines requests others
-  pub each : AllZip (IsAnswer net) requests answers
+  pub told : Records
+  pub each : AreAnswers net [] requests answers told
 
 -- the source has ended after these lines; one that gives 2^64 - 1 lines counts as ended
 abbrev pub HasEnded : SourceState → List (List ℕ) → Type 0

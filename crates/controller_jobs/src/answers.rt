@@ -1,21 +1,24 @@
 //! What `serve` answers to a request.
-ghost use Rattle.std.specs.Prelude.{◌≡◌, ◌≤◌, ◌++◌, ℕ, List, Some, IfOk, IfErr, length};
+ghost use Rattle.std.specs.Prelude.{◌≡◌, ◌≤◌, ◌++◌, ℕ, List, IfOk, IfErr, length};
 ghost use Rattle.std.specs.List.{concat};
 ghost use Rattle.commands.specs.{Kinds.StateText, Kinds.node_state_of, Limits.most_bytes, Texts.IsReadAs};
-ghost use Rattle.controller_jobs.specs.{Gathering.AskedText, Gathering.HasLine, Gathering.IsGathered, Gathering.IsOf, Gathering.OrNoMemory, Gathering.request_of, Requests.asked_by, Requests.names_in, Serving.IsAnswer, Serving.IsDecided};
-ghost use Rattle.controller_jobs.specs.{Serving.IsDecidedFor, Serving.IsFirstRefused, Serving.IsNodeDecided, Serving.IsNodeRefused, Serving.IsRefused, Serving.IsWhy, Serving.end_line, Serving.refused_answer};
+ghost use Rattle.controller_jobs.specs.{Gathering.AskedText, Gathering.HasLine, Gathering.IsAnswerTo, Gathering.IsGathered, Gathering.IsOf, Gathering.IsReply, Gathering.OrNoMemory, Gathering.request_of};
+ghost use Rattle.controller_jobs.specs.{Requests.OfAll, Requests.OfNext, Requests.asked_by, Requests.names_in};
+ghost use Rattle.controller_jobs.specs.Requests as requests;
+ghost use Rattle.controller_jobs.specs.Serving.{IsFirstRefused, IsNodeDecided, IsNodeRefused, IsRefused, IsWhy, NextText, Records, end_line, refused_answer};
+ghost use Rattle.round_states.specs.NextTexts.{AreKept, AreOfAnswer};
 ghost use Rattle.commands.specs.declared.refusals.Refusal.TheVariants as refusal;
 ghost use Rattle.commands.specs.declared.refusals.TextPlace.TheVariants as place;
 ghost use Rattle.road_net.specs.Network.{IsNetwork};
 ghost use Rattle.round_states.specs.States.{IsStateOf};
 
-use crate::decide::{decided_text, turn_text};
-use crate::requests::{Gathered, Lost, names_after_end, split_name};
+use crate::decide::{Reply, decide_all, turn_text};
+use crate::requests::{Gathered, Lost, asks_next, names_after_end, split_name};
 use commands::{MOST_BYTES, Named, Refusal, TextPlace};
 use outside_world::LineRead;
 use record_text::node_named;
 use road_net::{Network, law_of_network};
-use round_states::{Asked, RoundState, StateFault, read_state};
+use round_states::{Asked, KeptRecords, RoundState, StateFault, read_state, read_state_with};
 use std::alloc::{AllocError, Global};
 use text_faults::{BadText, push_code, push_one};
 
@@ -25,20 +28,29 @@ const TOO_LONG: Refusal = Refusal::Bad {
     why: BadText::Long,
 };
 
-/// The answer to a request of which this was gathered, and which this line ends, of which this was read.
+/// The answer to a request of which this was gathered, and which this line ends, of which this was read, where this is kept of what was told last.
 pub(crate) fn answer(
     alloc: Global,
     net: &Network,
     gathered: &Gathered,
     line: &[u8],
     read: LineRead,
-) -> Result<Vec<u8>, AllocError>
-    ensures { IfOk result (λ answer. (lines : List (List ℕ)) → (last : List ℕ) → IsGathered lines gathered.now
-        → IsOf last read line.now → IsAnswer net.now (request_of lines last) answer.items) }
+    kept: &KeptRecords,
+) -> Result<Reply, AllocError>
+    requires { AreOfAnswer kept.now }
+    ensures { (told : Records) → AreKept net.now told kept.now
+        → IfOk result (λ answer. (lines : List (List ℕ)) → (last : List ℕ) → IsGathered lines gathered.now
+        → IsOf last read line.now → IsAnswerTo net.now told (request_of lines last) answer) }
 {
-    match reply(alloc, net, gathered, line, read) {
-        Ok(text) => with_end(text),
-        Err(why) => refusal_text(alloc, why),
+    match reply_for(alloc, net, gathered, line, read, kept) {
+        Ok(reply) => Ok(Reply {
+            text: with_end(reply.text)?,
+            kept: reply.kept,
+        }),
+        Err(why) => Ok(Reply {
+            text: refusal_text(alloc, why)?,
+            kept: None,
+        }),
     }
 }
 
@@ -76,38 +88,54 @@ fn state_refusal(alloc: Global, why: BadText) -> Result<Vec<u8>, AllocError>
 }
 
 // What is decided of a request, or why it is refused.
-fn reply(
+fn reply_for(
     alloc: Global,
     net: &Network,
     gathered: &Gathered,
     line: &[u8],
     read: LineRead,
-) -> Result<Vec<u8>, Refusal>
-    ensures ok { IfOk result (λ text. (lines : List (List ℕ)) → (last : List ℕ) → IsGathered lines gathered.now
-        → IsOf last read line.now → IsDecidedFor net.now (concat lines) (asked_by last) text.items) }
-    ensures refused { IfErr result (λ why. (lines : List (List ℕ)) → (last : List ℕ) → IsGathered lines gathered.now
-        → IsOf last read line.now → IsWhy net.now (request_of lines last) why) }
+    kept: &KeptRecords,
+) -> Result<Reply, Refusal>
+    requires { AreOfAnswer kept.now }
+    ensures ok { (told : Records) → AreKept net.now told kept.now
+        → IfOk result (λ reply. (lines : List (List ℕ)) → (last : List ℕ) → IsGathered lines gathered.now
+        → IsOf last read line.now → IsReply net.now told (concat lines) (asked_by last) reply) }
+    ensures refused { (told : Records) → AreKept net.now told kept.now
+        → IfErr result (λ why. (lines : List (List ℕ)) → (last : List ℕ) → IsGathered lines gathered.now
+        → IsOf last read line.now → IsWhy net.now told (request_of lines last) why) }
     ensures line { IfErr result HasLine }
 {
     match gathered.lost {
         Some(Lost::Long) => Err(TOO_LONG),
         Some(Lost::NoMemory) => Err(Refusal::NoMemory),
         None => match read {
-            LineRead::Whole => reply_to(alloc, net, &gathered.text, line),
+            LineRead::Whole => reply_to(alloc, net, &gathered.text, line, kept),
             LineRead::Part | LineRead::End => Err(Refusal::NoMemory),
         },
     }
 }
 
 // What is decided of a state's text for those whom the line that ends the request asks, or why it is refused.
-fn reply_to(alloc: Global, net: &Network, text: &[u8], last: &[u8]) -> Result<Vec<u8>, Refusal>
-    ensures ok { IfOk result (λ bytes. IsDecidedFor net.now text.now (asked_by last.now) bytes.items) }
-    ensures refused { IfErr result (λ why. (lines : List (List ℕ)) → text.now ≡ concat lines
-        → IsWhy net.now (request_of lines last.now) why) }
+fn reply_to(
+    alloc: Global,
+    net: &Network,
+    text: &[u8],
+    last: &[u8],
+    kept: &KeptRecords,
+) -> Result<Reply, Refusal>
+    requires { AreOfAnswer kept.now }
+    ensures ok { (told : Records) → AreKept net.now told kept.now
+        → IfOk result (IsReply net.now told text.now (asked_by last.now)) }
+    ensures refused { (told : Records) → AreKept net.now told kept.now
+        → IfErr result (λ why. (lines : List (List ℕ)) → text.now ≡ concat lines
+        → IsWhy net.now told (request_of lines last.now) why) }
     ensures line { IfErr result HasLine }
 {
     if text.len() > MOST_BYTES {
         return Err(TOO_LONG);
+    }
+    if asks_next(last) {
+        return next_round(alloc, net, text, kept);
     }
     match names_after_end(last) {
         None => all_nodes(alloc, net, text),
@@ -116,20 +144,41 @@ fn reply_to(alloc: Global, net: &Network, text: &[u8], last: &[u8]) -> Result<Ve
 }
 
 // What is decided of a state's text for all nodes.
-fn all_nodes(alloc: Global, net: &Network, text: &[u8]) -> Result<Vec<u8>, Refusal>
+fn all_nodes(alloc: Global, net: &Network, text: &[u8]) -> Result<Reply, Refusal>
     requires { length text.now ≤ most_bytes }
-    ensures ok { IfOk result (λ bytes. IsDecided net.now text.now bytes.items) }
+    ensures ok { IfOk result (λ reply. (told : Records) → IsReply net.now told text.now OfAll reply) }
     ensures refused { IfErr result (OrNoMemory (IsRefused (StateText net.now) text.now)) }
 {
     let state = state_for(alloc, net, text, Asked::AllNodes)?;
-    let text = decided_text(alloc, net, state)?;
-    Ok(text)
+    let reply = decide_all(alloc, net, state)?;
+    Ok(reply)
+}
+
+// The same, where what was told last comes after the text.
+fn next_round(
+    alloc: Global,
+    net: &Network,
+    text: &[u8],
+    kept: &KeptRecords,
+) -> Result<Reply, Refusal>
+    requires few { length text.now ≤ most_bytes }
+    requires kept { AreOfAnswer kept.now }
+    ensures ok { (told : Records) → AreKept net.now told kept.now
+        → IfOk result (IsReply net.now told text.now OfNext) }
+    ensures refused { (told : Records) → AreKept net.now told kept.now
+        → IfErr result (OrNoMemory (IsRefused (NextText net.now told) text.now)) }
+    ensures line { IfErr result HasLine }
+{
+    let state = next_state(alloc, net, text, kept)?;
+    let reply = decide_all(alloc, net, state)?;
+    Ok(reply)
 }
 
 // What is decided of a state's text for the nodes with these names, one after another.
-fn nodes(alloc: Global, net: &Network, text: &[u8], names: &[u8]) -> Result<Vec<u8>, Refusal>
+fn nodes(alloc: Global, net: &Network, text: &[u8], names: &[u8]) -> Result<Reply, Refusal>
     requires { length text.now ≤ most_bytes }
-    ensures ok { IfOk result (λ bytes. IsDecidedFor net.now text.now (Some (names_in names.now)) bytes.items) }
+    ensures ok { IfOk result (λ reply. (told : Records)
+        → IsReply net.now told text.now (requests.OfNames (names_in names.now)) reply) }
     ensures refused { IfErr result (OrNoMemory (IsFirstRefused net.now text.now (names_in names.now))) }
 {
     let mut all = Vec::new(alloc);
@@ -143,7 +192,10 @@ fn nodes(alloc: Global, net: &Network, text: &[u8], names: &[u8]) -> Result<Vec<
         all.extend_from_slice(&part)?;
         left = others;
     }
-    Ok(all)
+    Ok(Reply {
+        text: all,
+        kept: None,
+    })
 }
 
 // What is decided of a state's text for the node with this name.
@@ -173,6 +225,32 @@ fn state_for(alloc: Global, net: &Network, text: &[u8], asked: Asked) -> Result<
     ensures refused { IfErr result (OrNoMemory (IsRefused (AskedText net.now asked) text.now)) }
 {
     match read_state(alloc, text, net, asked) {
+        Ok(state) => Ok(state),
+        Err(StateFault::NoMemory) => Err(Refusal::NoMemory),
+        Err(fault) => Err(Refusal::Bad {
+            text: TextPlace::Second,
+            why: BadText::State(fault),
+        }),
+    }
+}
+
+// The state that a text tells for all nodes, where what was told last comes after it.
+fn next_state(
+    alloc: Global,
+    net: &Network,
+    text: &[u8],
+    kept: &KeptRecords,
+) -> Result<RoundState, Refusal>
+    requires few { length text.now ≤ most_bytes }
+    requires kept { AreOfAnswer kept.now }
+    ensures read { (told : Records) → AreKept net.now told kept.now
+        → IfOk result (IsReadAs (NextText net.now told) text.now) }
+    ensures state { IfOk result (IsStateOf net.now Asked.AllNodes) }
+    ensures refused { (told : Records) → AreKept net.now told kept.now
+        → IfErr result (OrNoMemory (IsRefused (NextText net.now told) text.now)) }
+    ensures line { IfErr result HasLine }
+{
+    match read_state_with(alloc, text, net, Asked::AllNodes, kept) {
         Ok(state) => Ok(state),
         Err(StateFault::NoMemory) => Err(Refusal::NoMemory),
         Err(fault) => Err(Refusal::Bad {

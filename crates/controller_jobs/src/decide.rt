@@ -4,7 +4,7 @@ ghost use Rattle.net_parts.specs.Numbers.{number_of};
 ghost use Rattle.command_words.specs.Calls.{Decide, DecideNode};
 ghost use Rattle.commands.specs.{Ending.Makes, Outcome.Outcome, Rounds.IsDecisionText, Rounds.IsNodeDecisionText};
 ghost use Rattle.round_states.specs.States.{IsStateOf};
-ghost use Rattle.controller_jobs.specs.Nodes.{MissesNode};
+ghost use Rattle.controller_jobs.specs.{Gathering.IsDecidedIn, Nodes.MissesNode};
 
 use commands::{
     Made, Named, NetworkWith, Refusal, Status, end, fetch_network_with, fetch_node_state,
@@ -12,16 +12,21 @@ use commands::{
 use outside_world::{Shelf, Sink};
 use pruned_dp::BoundPlanner;
 use road_net::{Network, law_of_network};
-use round_decisions::{decide, decide_node, decision_text, node_decision_text};
-use round_states::{Asked, RoundState};
+use round_decisions::{decide, decide_node, decision_text, keep_decision, node_decision_text};
+use round_states::{Asked, KeptRecords, RoundState};
 use std::alloc::{AllocError, Global};
 
+/// What is answered to a request: what is decided, or that it is refused.
+#[derive(Drop)]
+pub(crate) struct Reply {
+    /// Its text.
+    pub(crate) text: Vec<u8>,
+    /// What it tells, kept for the next round; none where not all nodes decide.
+    pub(crate) kept: Option<KeptRecords>,
+}
+
 /// The text of the decision of the round of a state.
-pub(crate) fn decided_text(
-    alloc: Global,
-    net: &Network,
-    state: RoundState,
-) -> Result<Vec<u8>, AllocError>
+fn decided_text(alloc: Global, net: &Network, state: RoundState) -> Result<Vec<u8>, AllocError>
     requires { IsStateOf net.now Asked.AllNodes state }
     ensures { IfOk result (λ text. IsDecisionText net.now state text.items) }
 {
@@ -30,6 +35,26 @@ pub(crate) fn decided_text(
     let decision = decide(alloc, net, state, &mut BoundPlanner::new(alloc))?;
     let text = decision_text(alloc, net, round, &decision)?;
     Ok(text)
+}
+
+/// The text of the decision of the round of a state, with what it tells.
+pub(crate) fn decide_all(
+    alloc: Global,
+    net: &Network,
+    state: RoundState,
+) -> Result<Reply, AllocError>
+    requires { IsStateOf net.now Asked.AllNodes state }
+    ensures { IfOk result (IsDecidedIn net.now state) }
+{
+    law_of_network(net);
+    let round = state.round;
+    let decision = decide(alloc, net, state, &mut BoundPlanner::new(alloc))?;
+    let kept = keep_decision(alloc, net, round, &decision)?;
+    let text = decision_text(alloc, net, round, &decision)?;
+    Ok(Reply {
+        text,
+        kept: Some(kept),
+    })
 }
 
 /// The text of what the node with this number decides in the round of a state.

@@ -1,9 +1,10 @@
 //! The requests of `serve`: which line ends one, whom it asks, and what is gathered of one.
-ghost use Rattle.std.specs.Prelude.{◌≡◌, ◌≢◌, ◌↔◌, ◌<◌, ◌≤◌, ◌+◌, ◌++◌, ◌∷◌, ℕ, List, [], All, IsTrue, IfNone, IfErr, IfSome, OnOk, length};
+ghost use Rattle.std.specs.Prelude.{◌≡◌, ◌≢◌, ◌↔◌, ◌<◌, ◌≤◌, ◌+◌, ◌++◌, ◌∷◌, ℕ, List, [], All, IsTrue, IfNone, IfErr, IfSome, OnOk, codes, length, take};
+ghost use Rattle.std.specs.Str.{bytes_eq};
 ghost use Rattle.std.specs.Io.BufRead.{strip_last};
 ghost use Rattle.std.specs.List.{slice_split};
 ghost use Rattle.std.specs.Option.{option_map, option_map_or};
-ghost use Rattle.controller_jobs.specs.{Gathering.IsFirstComma, Gathering.IsGathered, Gathering.IsOf, Gathering.IsTooMuch, Requests.EndsRequest, Requests.names_after_end, Requests.names_in};
+ghost use Rattle.controller_jobs.specs.{Gathering.IsFirstComma, Gathering.IsGathered, Gathering.IsOf, Gathering.IsTooMuch, Requests.EndsRequest, Requests.IsEnd, Requests.IsNext, Requests.names_after_end, Requests.names_in};
 ghost use Rattle.outside_world.specs.declared.source.LineRead.TheVariants as variant;
 
 use commands::MOST_BYTES;
@@ -11,7 +12,10 @@ use outside_world::LineRead;
 use std::alloc::{AllocError, Global};
 
 /// How many bytes at the front of a line say whether it ends a request.
-pub(crate) const FRONT: usize = 4;
+pub(crate) const FRONT: usize = 5;
+
+/// How long what is before the names in a line is, `end` and a comma.
+const BEFORE_NAMES: usize = 4;
 
 /// Why the text of a request is lost.
 #[derive(Debug, Clone, Copy, PartialEq, Eq)]
@@ -92,17 +96,39 @@ fn append(text: &mut Vec<u8>, line: &[u8], read: LineRead) -> Result<(), Lost>
 pub(crate) fn ends_request(line: &[u8]) -> bool
     ensures { IsTrue result ↔ EndsRequest line.now }
 {
-    let front = &line[..line.len().min(FRONT)];
+    is_end(line) || is_next(line)
+}
+
+// Whether a line is `end`, or begins with `end` and a comma.
+fn is_end(line: &[u8]) -> bool
+    ensures { IsTrue result ↔ IsEnd line.now }
+{
+    let front = &line[..line.len().min(BEFORE_NAMES)];
     front == b"end\n".as_slice() || front == b"end,".as_slice() || front == b"end".as_slice()
+}
+
+// Whether a line is `next`.
+fn is_next(line: &[u8]) -> bool
+    ensures { IsTrue result ↔ IsNext line.now }
+{
+    let front = &line[..line.len().min(FRONT)];
+    front == b"next\n".as_slice() || front == b"next".as_slice()
+}
+
+/// Whether the request that this line ends asks for the state that goes on from what was told last.
+pub(crate) fn asks_next(line: &[u8]) -> bool
+    ensures { result ≡ bytes_eq (take 4 line.now) (codes "next") }
+{
+    &line[..line.len().min(BEFORE_NAMES)] == b"next".as_slice()
 }
 
 /// The names in the line that ends a request, with commas between them; none where it asks all nodes.
 pub(crate) fn names_after_end(line: &[u8]) -> Option<&[u8]>
     ensures { option_map (λ names. names.now) result ≡ names_after_end line.now }
 {
-    let front = &line[..line.len().min(FRONT)];
+    let front = &line[..line.len().min(BEFORE_NAMES)];
     if front == b"end,".as_slice() {
-        Some(without_feed(&line[FRONT..]))
+        Some(without_feed(&line[BEFORE_NAMES..]))
     } else {
         None
     }

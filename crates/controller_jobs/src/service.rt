@@ -1,14 +1,17 @@
 //! `serve NET`, which answers one request after another.
 ghost use Rattle.std.specs.Prelude.{◌≡◌, ◌≤◌, ℕ, List, [], IfOk, IfErr, vec_capacity};
 ghost use Rattle.commands.specs.Outcome.{Outside};
-ghost use Rattle.controller_jobs.specs.Gathering.{EndsServing, IsAnsweredAll, IsGathered, IsHeard, IsLineTaken, IsOf, IsPut, IsUntaken, request_of};
-ghost use Rattle.controller_jobs.specs.Serving.{IsAnswer, Serves, answer_to_others};
+ghost use Rattle.controller_jobs.specs.Gathering.{AreKeptAfter, EndsServing, IsAnsweredAll, IsGathered, IsHeard, IsLineTaken, IsOf, IsPut, IsPutFor, IsUntaken, request_of};
+ghost use Rattle.controller_jobs.specs.Serving.{Records, Serves, answer_to_others};
+ghost use Rattle.net_parts.specs.Numbers.{Net};
+ghost use Rattle.round_states.specs.NextTexts.{AreKept, AreOfAnswer};
 
 use crate::answers::answer;
 use crate::requests::{FRONT, Gathered, ends_request};
 use commands::{MOST_BYTES, Refusal, Status, TextPlace, fetch, refuse};
 use outside_world::{Failed, LineRead, Shelf, Sink, Source};
 use road_net::Network;
+use round_states::KeptRecords;
 use std::alloc::{AllocError, Global};
 
 /// The answer for which there is no memory.
@@ -18,8 +21,9 @@ const NO_MEMORY: &[u8] = b"refused,signal: no memory\nend\n";
 const UNENDED: &[u8] = b"refused,signal: cannot read 2\nend\n";
 
 /// Reads the network in the file once, and answers each request of the source in its order: as `decide` does, or with one line that
-/// says why it is refused, and a line `end` after either; then it goes on. Each answer is written before the next request is read. It
-/// ends with the source, or where that or a write fails.
+/// says why it is refused, and a line `end` after either; then it goes on. A request that ends with `next` is answered as if what was told
+/// last came after its records. Each answer is written before the next request is read. It ends with the source, or where that or a write
+/// fails.
 ///
 /// Each status has its cause, and each refusal writes its line to `err`, as `signal` says.
 ///
@@ -72,13 +76,14 @@ fn answer_all<I: Source, O: Sink>(
 {
     let mut line = Vec::with_capacity(alloc, FRONT)?;
     let mut gathered = Gathered::none(alloc);
+    let mut kept = KeptRecords::none(alloc);
     for _ in 0..u64::MAX {
         let read = match take_line(source, &mut line) {
             Ok(Some(read)) => read,
             Ok(None) => return finish(&gathered, out),
             Err(why) => return Err(why),
         };
-        match hear(alloc, net, &line, read, &mut gathered, out) {
+        match hear(alloc, net, &line, read, &mut gathered, &mut kept, out) {
             Ok(()) => {}
             Err(why) => return Err(why),
         }
@@ -88,7 +93,7 @@ fn answer_all<I: Source, O: Sink>(
 
 // Takes the next line, of which the front that says whether it ends a request is kept in any case; none where the source has ended.
 fn take_line<I: Source>(source: &mut I, line: &mut Vec<u8>) -> Result<Option<LineRead>, Refusal>
-    requires { 4 ≤ vec_capacity line.old }
+    requires { 5 ≤ vec_capacity line.old }
     ensures ok { IfOk result (λ read. IsLineTaken read (I.state source.old) (I.state source.new) line.new.items) }
     ensures refused { IfErr result (IsUntaken (I.state source.old) (I.state source.new)) }
     ensures capacity { vec_capacity line.old ≤ vec_capacity line.new }
@@ -110,16 +115,19 @@ fn hear<O: Sink>(
     line: &[u8],
     read: LineRead,
     gathered: &mut Gathered,
+    kept: &mut KeptRecords,
     out: &mut O,
 ) -> Result<(), Refusal>
-    ensures { (lines : List (List ℕ)) → (whole : List ℕ) → IsGathered lines gathered.old → IsOf whole read line.now
-        → IsHeard net.now lines whole gathered.new (O.state out.old) (O.state out.new) result }
+    requires { AreOfAnswer kept.old }
+    ensures { (lines : List (List ℕ)) → (whole : List ℕ) → (told : Records) → IsGathered lines gathered.old
+        → AreKept net.now told kept.old → IsOf whole read line.now
+        → IsHeard net.now told lines whole gathered.new kept.new (O.state out.old) (O.state out.new) result }
 {
     if !ends_request(line) {
         gathered.add(line, read);
         return Ok(());
     }
-    match put_answer(alloc, net, line, read, gathered, out) {
+    match put_answer(alloc, net, line, read, gathered, kept, out) {
         Ok(()) => {
             gathered.clear();
             Ok(())
@@ -128,22 +136,37 @@ fn hear<O: Sink>(
     }
 }
 
-// Writes the answer to the request of which this is gathered, and which this line ends.
+// Writes the answer to the request of which this is gathered, and which this line ends, and keeps what is told last.
 fn put_answer<O: Sink>(
     alloc: Global,
     net: &Network,
     line: &[u8],
     read: LineRead,
     gathered: &Gathered,
+    kept: &mut KeptRecords,
     out: &mut O,
 ) -> Result<(), Refusal>
-    ensures { (lines : List (List ℕ)) → (whole : List ℕ) → IsGathered lines gathered.now → IsOf whole read line.now
-        → (answer : List ℕ) × IsAnswer net.now (request_of lines whole) answer
-        × IsPut answer (O.state out.old) (O.state out.new) result }
+    requires { AreOfAnswer kept.old }
+    ensures { (lines : List (List ℕ)) → (whole : List ℕ) → (told : Records) → IsGathered lines gathered.now
+        → AreKept net.now told kept.old → IsOf whole read line.now
+        → IsPutFor net.now told (request_of lines whole) kept.new (O.state out.old) (O.state out.new) result }
 {
-    match answer(alloc, net, gathered, line, read) {
-        Ok(bytes) => put(&bytes, out),
+    match answer(alloc, net, gathered, line, read, kept) {
+        Ok(answer) => {
+            keep_last(answer.kept, kept);
+            put(&answer.text, out)
+        }
         Err(AllocError) => put(NO_MEMORY, out),
+    }
+}
+
+// Keeps what an answer tells, where it tells something.
+fn keep_last(new: Option<KeptRecords>, kept: &mut KeptRecords)
+    ensures { (net : Net) → (before after : Records) → AreKept net before kept.old → AreKeptAfter net before new after
+        → AreKept net after kept.new }
+{
+    if let Some(new) = new {
+        *kept = new;
     }
 }
 

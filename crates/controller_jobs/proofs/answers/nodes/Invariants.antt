@@ -1,4 +1,4 @@
-use Rattle.std.proofs.Common.{◌≡◌, ℕ, List, [], ◌+◌, length}
+use Rattle.std.proofs.Common.{[], ◌+◌, length}
 use Rattle.std.specs.Option.{option_map_or}
 use Rattle.controller_jobs.specs.Gathering.{HasDecided}
 use Rattle.controller_jobs.specs.Requests.{names_in}

@@ -2,10 +2,13 @@ use Rattle.std.proofs.Common.{inr, refl, List, ℕ, subst}
 use Rattle.commands.specs.declared.refusals.Refusal.TheVariants as refusal
 use Rattle.controller_jobs.specs.Gathering.{IsPut}
 use Rattle.controller_jobs.specs.Serving.{refused_answer}
+use Rattle.controller_jobs.proofs.ServeLaws.{on-ok}
 use Rattle.controller_jobs.proofs.service.put_answer.Goals as goal
 
 pub returns-in-Ok : goal.returns-in-Ok
-returns-in-Ok g c = λ lines whole is of. (c.in-Ok.bytes.items, c.in-Ok.ensures lines whole is of, subst (λ (bytes : List ℕ). IsPut bytes (g.O.Sink.state c.args.out.now) (g.O.Sink.state c.put.new.out) c.put.result) c.deref.ensures.value c.put.ensures)
+returns-in-Ok g c = λ lines whole records is kept of.
+    let answered = c.in-Ok.ensures records kept lines whole is of in
+    (c.in-Ok.answer.text.items, answered.after, answered.is, subst (λ (bytes : List ℕ). IsPut bytes (g.O.Sink.state c.args.out.now) (g.O.Sink.state c.put.new.out) c.put.result) c.deref.ensures.value c.put.ensures, on-ok c.put.result (c.keep_last.ensures c.args.net.now records answered.after kept answered.kept))
 
 pub returns-in-Err : goal.returns-in-Err
-returns-in-Err g c = λ lines whole is of. (refused_answer refusal.NoMemory, inr (refusal.NoMemory, tt, refl), c.put-in-Err.ensures)
+returns-in-Err g c = λ lines whole records is kept of. (refused_answer refusal.NoMemory, records, inr (refusal.NoMemory, tt, refl, refl), c.put-in-Err.ensures, on-ok c.put-in-Err.result kept)
