@@ -3,6 +3,9 @@
     with Serving(program, "net.toml") as serving:
         text = serving.decide(state)              # as `decide NET STATE` writes it
         texts = serving.turns(state, ["a", "b"])  # as `decide NET STATE NODE` does, for each of these nodes
+        text = serving.decide_next(sensed)        # as `decide` of the state `sensed + serving.told`; what is sensed alone is sent
+
+What was told last is what the last `decide` or `decide_next` answered, without its header. `turns` changes nothing of it, nor does a refusal.
 """
 
 import subprocess
@@ -21,9 +24,10 @@ class Refused(Fault):
 
 
 class Serving:
-    """The process. A state that is refused raises `Refused`."""
+    """The process. A state that is refused raises `Refused`. `told` is what was told last, without its header; None where nothing was yet."""
 
     def __init__(self, program: Sequence[str], network: str | PathLike[str]) -> None:
+        self.told: str | None = None
         pipe = subprocess.PIPE
         try:
             self._process = subprocess.Popen([*program, "serve", fspath(network)], stdin=pipe, stdout=pipe, stderr=pipe)
@@ -39,7 +43,11 @@ class Serving:
 
     def decide(self, state: str) -> str:
         """The decision of all nodes in a state."""
-        return self._answer(state, "end")
+        return self._decision(state, "end")
+
+    def decide_next(self, sensed: str) -> str:
+        """The decision of all nodes in the state of these records and, after them, those that were told last, which are not sent."""
+        return self._decision(sensed, "next")
 
     def turns(self, state: str, names: Sequence[str]) -> list[str]:
         """The decision of each of these nodes in a state, by its own turn."""
@@ -47,6 +55,12 @@ class Serving:
         if len(texts) != len(names):
             raise Fault(f"serve: it answered {plural(len(texts), 'node')} of {len(names)}")
         return texts
+
+    def _decision(self, text: str, last: str) -> str:
+        """The answer to a request of all nodes, which is then what was told last."""
+        answer = self._answer(text, last)
+        self.told = answer.partition("\n")[2]
+        return answer
 
     def _answer(self, state: str, last: str) -> str:
         """The answer to a request, without its last line, which is `end`."""

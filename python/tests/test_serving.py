@@ -3,18 +3,20 @@
 import unittest
 
 from kolvunh import Fault
-from kolvunh.serving import HEADER, Serving
+from kolvunh.serving import HEADER, Refused, Serving
 
 from .worked import FilesTest
 
 # What stands for the program: of each node that is asked for it tells how many rows the state has; it refuses one of second 99, and ends at 98.
+# The lines that it read are in the file network.toml.asked.
 PROGRAM = """#!/usr/bin/env python3
 import sys
 
-state = []
+state, asked = [], open(sys.argv[2] + ".asked", "w")
 for line in sys.stdin:
+    print(line, end="", file=asked, flush=True)
     word, *names = line.rstrip("\\n").split(",")
-    if word != "end":
+    if word not in ("end", "next"):
         state.append(line)
     elif "now,,98,,\\n" in state:
         sys.exit("signal: no memory")
@@ -43,6 +45,19 @@ class ServingTest(FilesTest):
                 serving.turns("now,,5,,\n", [])
             with self.assertRaisesRegex(Fault, "^serve: it ended with status 1: signal: no memory$"):
                 serving.decide("now,,98,,\n")
+
+    def test_what_was_told_last(self):
+        with self.serving() as serving:
+            self.assertIsNone(serving.told)
+            serving.decide("now,,0,,\n")
+            self.assertEqual(serving.decide_next("now,,5,,\nqueue\n"), f"{HEADER}\nplan,all,2,0,\n")
+            self.assertEqual(serving.told, "plan,all,2,0,\n")
+            serving.turns("now,,10,,\n", ["a"])
+            with self.assertRaises(Refused):
+                serving.decide_next("now,,99,,\n")
+            self.assertEqual(serving.told, "plan,all,2,0,\n")
+        asked = (self.folder / "network.toml.asked").read_text()
+        self.assertEqual(asked, "now,,0,,\nend\nnow,,5,,\nqueue\nnext\nnow,,10,,\nend,a\nnow,,99,,\nnext\n")
 
     def test_a_program_that_ends(self):
         wanted = "^serve: it ended with status 3: signal: bad 1 toml$"
