@@ -1,6 +1,7 @@
 """Tests of the tools for SUMO. Where SUMO is not installed, those that need it are skipped."""
 
 import random
+import re
 import shutil
 import subprocess
 import tempfile
@@ -13,7 +14,7 @@ from unittest import mock
 from kolvunh.faults import Fault
 from kolvunh.networks import read_tables
 from kolvunh.sumo.layout import SUMO_HOME, Layout, read_places, vehicles, walkers
-from kolvunh.sumo.loop import Loop, Sensors, repeat_arrivals, run_loop, seconds_to_end
+from kolvunh.sumo.loop import Loop, Sensors, asker, repeat_arrivals, run_loop, seconds_to_end
 from kolvunh.sumo.measures import differences, outcome, run_words
 from kolvunh.sumo.signals import state_at
 from kolvunh.sumo.to_sumo import convert, element, report_programs, write_routes
@@ -28,6 +29,21 @@ GREENS = {
     "second": [(0, 0, 9), (1, 14, 27), (0, 32, 50), (1, 55, 63), (0, 68, 81), (1, 86, 94), (0, 99, 132)],
     "third": [(0, 0, 21), (1, 26, 31), (0, 36, 59), (1, 64, 70), (0, 75, 99), (1, 104, 110), (0, 115, 150)],
 }
+# What stands for the program: it keeps what it is sent, gives the first signal a green from each round's begin on, and refuses second 10,810.
+PROGRAM = """#!/usr/bin/env python3
+import sys
+
+now, sent = 0, open(sys.argv[2] + ".sent", "w")
+for line in sys.stdin:
+    print(line, end="", file=sent, flush=True)
+    if line.startswith("now,"):
+        now = int(line.split(",")[2])
+    elif line in ("end\\n", "next\\n") and now == 10_810:
+        print("refused,signal: bad 2 time 1\\nend", flush=True)
+    elif line in ("end\\n", "next\\n"):
+        print(f"kind,name,x,y,z\\nplan,first,,none,\\ngreen,first,0,{now},{now + 20}")
+        print(f"version,first_second,{now // 5},,\\nrow,first_second,{now + 5},500,\\nend", flush=True)
+"""
 
 
 class ToldSensors(Sensors):
@@ -44,9 +60,9 @@ class ToldSensors(Sensors):
         return self._told
 
 
-def ring_answer(state, phases=2, change=5):
+def ring_answer(sensed, told, phases=2, change=5):
     """An answer that gives each signal of a state its ring with greens of 10 seconds."""
-    rows = [line.split(",") for line in state.splitlines()]
+    rows = [line.split(",") for line in (sensed + told).splitlines()]
     now, lines = int(rows[1][2]), {}
     for kind, name, *cells in rows:
         if kind == "green":
@@ -57,8 +73,13 @@ def ring_answer(state, phases=2, change=5):
         while line[-1][2] <= now + 30:
             line.append([(line[-1][0] + 1) % phases, line[-1][2] + change, line[-1][2] + change + 10])
         answer += ["green," + ",".join(map(str, [name, *row])) for row in line]
-    told = ["version,first_second,1,,", "row,first_second,40,500,"] if "first" in lines else []
-    return "\n".join([*answer, *told, ""])
+    boards = ["version,first_second,1,,", "row,first_second,40,500,"] if "first" in lines else []
+    return "\n".join([*answer, *boards, ""])
+
+
+def asker_of_ring(states):
+    """Asks for the ring's answers, and keeps the states that were asked."""
+    return lambda *state: states.append("".join(state)) or ring_answer(*state)
 
 
 def with_crossing(network):
@@ -137,38 +158,52 @@ class LayoutTest(unittest.TestCase):
     def test_a_state(self):
         signals = type("Stub", (), {"layout": Layout(CORRIDOR)})
         loop = Loop(signals, ring_answer)
+        self.assertEqual(loop.told.splitlines(), ["green,first,0,0,5", "green,second,0,0,5", "green,third,0,0,5"])
         loop.decide(0, Counter(), Counter())
         loop.see(5, Counter(west_in=2))
-        lines = loop.state(5, Counter(west_in=2), Counter({("east_in", 9): 1})).splitlines()
-        self.assertEqual(lines[:3], ["kind,name,x,y,z", "now,,5,,", "green,first,0,0,5"])
-        wanted = ["queue,west_in,2000,1,", "coming,east_in,9,1000,", "version,first_second,1,,", "row,first_second,40,500,"]
-        self.assertEqual(lines[-4:], wanted)
+        lines = loop.sensed(5, Counter(west_in=2), Counter({("east_in", 9): 1})).splitlines()
+        self.assertEqual(lines, ["kind,name,x,y,z", "now,,5,,", "queue,west_in,2000,1,", "coming,east_in,9,1000,"])
+        self.assertEqual(loop.told.splitlines()[:2], ["green,first,0,0,5", "green,first,1,10,20"])
+        self.assertEqual(loop.told.splitlines()[-2:], ["version,first_second,1,,", "row,first_second,40,500,"])
 
-    def test_what_was_told_is_given_back(self):
-        signals = type("Stub", (), {"layout": Layout(CORRIDOR)})
-        states = []
-        loop = Loop(signals, lambda state: states.append(state) or ring_answer(state))
-        loop.act(0, Counter(), Counter())
-        loop.act(5, Counter(), Counter())
-        self.assertNotIn("version", states[0])
-        self.assertEqual(states[1].splitlines()[-2:], ["version,first_second,1,,", "row,first_second,40,500,"])
+    def test_what_is_sent(self):
+        """What was told is sent in the first round, and where the origin has moved; else `next` is enough."""
+        signals, queues = type("Stub", (), {"layout": Layout(CORRIDOR)}), Counter(west_in=1)
+        with tempfile.TemporaryDirectory() as folder:
+            program, state = Path(folder) / "program", Path(folder) / "state.csv"
+            program.write_text(PROGRAM)
+            program.chmod(0o755)
+            with asker([str(program)], f"{folder}/net.toml", state) as ask:
+                loop = Loop(signals, ask)
+                for now in (0, 5, 17_995, 18_000, 18_005):
+                    loop.act(now, Counter(), Counter())
+                with self.assertRaisesRegex(Fault, f"^{state}: serve: signal: bad 2 time 1$"):
+                    loop.act(18_010, queues, Counter())
+            sent = re.split("(?<=\nend\n)|(?<=\nnext\n)", Path(folder, "net.toml.sent").read_text())
+            refused = state.read_text()
+        header = "kind,name,x,y,z\nnow,,"
+        told = "plan,first,,none,\ngreen,first,0,{},{}\nversion,first_second,{},,\nrow,first_second,{},500,\n"
+        greens = "".join(f"green,{name},0,0,5\n" for name in ("first", "second", "third"))
+        moved = told.format(10_795, 10_815, 2159, 10_800)
+        wanted = [f"0,,\n{greens}end", "5,,\nnext", "17995,,\nnext", f"10800,,\n{moved}end", "10805,,\nnext", "10810,,\nqueue,west_in,1000,1,\nnext"]
+        self.assertEqual(sent, [*(f"{header}{text}\n" for text in wanted), ""])
+        self.assertEqual(refused, f"{header}10810,,\nqueue,west_in,1000,1,\n{told.format(10_805, 10_825, 2161, 10_810)}")
 
     def test_the_origin_moves(self):
         """A loop that goes on after five hours tells the state of second 18,000 as one of second 10,800: all seconds 7,200 less."""
         signals = type("Stub", (), {"layout": Layout(CORRIDOR)})
-        loop, states = Loop(signals, ring_answer), []
-        loop.ask = lambda state: states.append(state) or ring_answer(state)
+        states = []
+        loop = Loop(signals, asker_of_ring(states))
         loop.lines = {name: [(0, 17_970, 17_998), (1, 18_003, 18_013)] for name in loop.lines}
-        loop.told = [("version", "first_second", 3600, "", ""), ("row", "first_second", 18_040, 500, "")]
+        loop.told = "plan,first,,none,\ngreen,first,0,17970,17998\ngreen,first,1,18003,18013\n"
+        loop.told += "version,first_second,3600,,\nrow,first_second,18040,500,\n"
         loop.stood = Counter(west_in=12_000)
         lines = loop.act(18_000, Counter(west_in=2), Counter({("east_in", 18_009): 1}))
         rows = states[0].splitlines()
-        self.assertEqual(rows[1:4], ["now,,10800,,", "green,first,0,10770,10798", "green,first,1,10803,10813"])
-        wanted = ["queue,west_in,2000,10800,", "coming,east_in,10809,1000,", "version,first_second,2160,,", "row,first_second,10840,500,"]
-        self.assertEqual(rows[-4:], wanted)
+        self.assertEqual(rows[1:4], ["now,,10800,,", "queue,west_in,2000,10800,", "coming,east_in,10809,1000,"])
+        wanted = ["plan,first,,none,", "green,first,0,10770,10798", "green,first,1,10803,10813"]
+        self.assertEqual(rows[4:], [*wanted, "version,first_second,2160,,", "row,first_second,10840,500,"])
         self.assertEqual(lines["first"][:2], [(0, 17_970, 17_998), (1, 18_003, 18_013)])
-        # what is answered is told from the moved second 0 on
-        self.assertEqual(loop.told, [("version", "first_second", 1441, "", ""), ("row", "first_second", 7240, "500", "")])
 
     def test_without_the_tools_of_sumo(self):
         with mock.patch.dict("sys.modules", {"traci": None}), self.assertRaisesRegex(Fault, "^SUMO's tools are not in .*/tools: "):
@@ -184,7 +219,7 @@ class LayoutTest(unittest.TestCase):
     def test_for_how_long_a_queue_has_stood(self):
         """As in the world: the seconds before the round, back without a break, after which it was there (docs/RULES.md)."""
         states, signals = [], type("Stub", (), {"layout": Layout(CORRIDOR)})
-        loop = Loop(signals, lambda state: states.append(state) or ring_answer(state))
+        loop = Loop(signals, asker_of_ring(states))
         seen = {2: 1, 3: 1, 4: 0, **dict.fromkeys(range(5, 13), 1), 13: 0, **dict.fromkeys(range(14, 21), 1)}
         for now in range(21):
             loop.act(now, Counter({"west_in": seen[now]} if seen.get(now) else {}), Counter())
@@ -252,7 +287,7 @@ class SumoTest(unittest.TestCase):
         arrivals = self.folder / "arrivals.csv"
         arrivals.write_text("second,link,amount\n2,zebra,1000\n3,zebra,2000\n4,west_in,1000\n")
         write_routes(signals.layout, arrivals, 1, self.folder / "routes.1.rou.xml")
-        lines = run_loop(signals, lambda state: states.append(state) or ring_answer(state), run_words(self.folder, "loop", 1, signals))
+        lines = run_loop(signals, asker_of_ring(states), run_words(self.folder, "loop", 1, signals))
         self.assertEqual(list(differences(self.folder, "loop", 1, signals, lines)), [])
         told = [line for state in states for line in state.splitlines() if line.startswith("queue,zebra")]
         self.assertEqual(max(int(line.split(",")[2]) for line in told), 3000)

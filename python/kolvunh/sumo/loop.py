@@ -5,10 +5,11 @@
 PLACES is that of to_sumo.py, or `-`. A vehicle joins the queue of its entry link in the first second in which it is slower than
 5 m/s there, and is in it until it leaves the link; who waits before a crossing is in the queue of its link. Any other vehicle is
 coming, and reaches the end of its link as fast as it can speed up. With --early links end a second before their stop lines, where no driver
-stops any more, at nodes where nobody gives way: on a green link whoever drives past that place is counted no longer. Signals are set second by second. Afterwards what SUMO showed is
-compared with the greens that the program answered: the exit status is 1 where they differ. DIR/greens.csv has these greens as a
-report has them. With --hours it runs for so long in place of the network's rounds, and the vehicles of ARR come again each time that
-these are over. Nothing here is proved.
+stops any more, at nodes where nobody gives way: on a green link whoever drives past that place is counted no longer. `serve` is sent what is
+sensed in each round; what was told before is sent in the first one, and where seconds are counted from a later one, and else `serve` has it.
+Signals are set second by second. Afterwards what SUMO showed is compared with the greens that the program answered: the exit status is 1 where
+they differ. DIR/greens.csv has these greens as a report has them. With --hours it runs for so long in place of the network's rounds, and the
+vehicles of ARR come again each time that these are over. Nothing here is proved.
 """
 
 import contextlib
@@ -49,35 +50,40 @@ class Origin:
     def __init__(self, step):
         self._step, self.second = step, 0
 
-    def move(self, now):
-        """Moves by whole rounds, so that what is left of the clock is at least what counts of how long a queue has stood."""
-        if now - self.second >= SMALL_SECONDS:
-            self.second += (now - self.second - KEPT) // self._step * self._step
+    def move(self, now, told):
+        """Moves by whole rounds, so that what is left of the clock is at least what counts of how long a queue has stood.
 
-    def green(self, row):
-        """A row of greens, as a state tells it."""
-        phase, begin, end = row
-        return phase, begin - self.second, end - self.second
+        It answers the records that were told before, as a state of this round tells them.
+        """
+        if now - self.second < SMALL_SECONDS:
+            return told
+        rounds = (now - self.second - KEPT) // self._step
+        self.second += rounds * self._step
+        return csv_text(self._moved(record, rounds) for record in csv.reader(io.StringIO(told)))
 
-    def told(self, row):
-        """A row of a board, as a state tells it: a version counts rounds, a row of a forecast a second."""
-        kind, name, number, *cells = row
-        return kind, name, number - (self.second // self._step if kind == "version" else self.second), *cells
-
-    def said(self, row):
-        """A row of a board that a decision tells, as it would from second 0."""
-        kind, name, number, *cells = row
-        return kind, name, int(number) + (self.second // self._step if kind == "version" else self.second), *cells
+    def _moved(self, record, rounds):
+        """A record that was told, where second 0 is so many rounds later: a version counts rounds, a green and a row of a forecast seconds."""
+        kind, name, x, y, z = record
+        seconds = rounds * self._step
+        if kind == "green":
+            return kind, name, x, int(y) - seconds, int(z) - seconds
+        if kind in ("version", "row"):
+            return kind, name, int(x) - (rounds if kind == "version" else seconds), y, z
+        return record
 
 
 class Loop:
-    """The nodes' timelines and forecasts between the rounds, counted from second 0, and the queues that have stood so far."""
+    """The nodes' timelines, counted from second 0, the records that were told last, and the queues that have stood so far.
+
+    It asks with what is sensed, which begins with the header, and what was told: the one after the other they are the state of a round.
+    """
 
     def __init__(self, signals, ask):
         self.ask, self._step = ask, signals.layout.network["run"]["step"]
         self.origin = Origin(self._step)
         self.lines = {name: [(0, 0, node["phase"][0]["least"])] for name, node in signals.layout.nodes.items()}
-        self.told, self.stood = [], Counter()
+        self.told = csv_text(("green", name, *row) for name, line in self.lines.items() for row in line)
+        self.stood = Counter()
 
     def act(self, now, queues, coming):
         """Decides where a round begins, and answers the timelines. It is called once in each second, in their order."""
@@ -90,30 +96,25 @@ class Loop:
         """Counts for how many of the seconds before this one, back without a break, each queue was there at their end."""
         self.stood = Counter({link: min(now, self.stood[link] + 1) for link in queues})
 
-    def state(self, now, queues, coming):
-        """The state of a round as a file of records."""
-        self.origin.move(now)
+    def sensed(self, now, queues, coming):
+        """What is sensed as a round begins, as the header and the first records of its state."""
         clock = now - self.origin.second
-        rows = [("now", "", clock, "", "")]
-        for node, line in self.lines.items():
-            standing = bisect_right(line, now, key=lambda row: row[1]) - 1
-            rows += [("green", node, *self.origin.green(row)) for row in line[standing:]]
+        rows = [("kind", "name", "x", "y", "z"), ("now", "", clock, "", "")]
         rows += [("queue", link, VEHICLE * queue, min(self.stood[link], clock), "") for link, queue in queues.items()]
         rows += [
             ("coming", link, second - self.origin.second, VEHICLE * count, "") for (link, second), count in sorted(coming.items())
         ]
-        return csv_text([("kind", "name", "x", "y", "z"), *rows, *map(self.origin.told, self.told)])
+        return csv_text(rows)
 
     def decide(self, now, queues, coming):
         """Asks the program for a round; its greens go on where the rows that began before them end."""
         answered = defaultdict(list)
-        answer = self.ask(self.state(now, queues, coming))
-        self.told = []
+        self.told = self.origin.move(now, self.told)
+        answer = self.ask(self.sensed(now, queues, coming), self.told)
+        self.told = answer.partition("\n")[2]
         for row in csv.DictReader(io.StringIO(answer)):
             if row["kind"] == "green":
                 answered[row["name"]].append((int(row["x"]), *(int(row[end]) + self.origin.second for end in "yz")))
-            elif row["kind"] in ("version", "row"):
-                self.told.append(self.origin.said(row.values()))
         for node, line in answered.items():
             while self.lines[node] and self.lines[node][-1][1] >= line[0][1]:
                 self.lines[node].pop()
@@ -128,14 +129,17 @@ def csv_text(rows):
 
 @contextlib.contextmanager
 def asker(program, network, state):
-    """Asks a process of `serve` by the program's words on a network file; a state that is refused is left in a file."""
+    """Asks a process of `serve` by the program's words on a network file; a state that is refused is left in a file, whole.
+
+    What was told is sent along with what is sensed only where it is not what the process told last.
+    """
     with Serving(program, network) as serving:
 
-        def ask(text):
+        def ask(sensed, told):
             try:
-                return serving.decide(text)
+                return serving.decide_next(sensed) if told == serving.told else serving.decide(sensed + told)
             except Refused as fault:
-                state.write_text(text)
+                state.write_text(sensed + told)
                 raise Fault(f"{state}: {fault}") from fault
 
         yield ask
