@@ -1,10 +1,11 @@
 #!/usr/bin/env python3
-"""How long `serve` takes for a round: bench/serve_rounds.py NET [--rounds N] [--seed N] [--program WORDS]
+"""How long `serve` takes for a round: bench/serve_rounds.py NET [--rounds N] [--seed N] [--whole] [--program WORDS]
 
-Each round's state gives back all that the round before was answered, and tells for each link that ends at a node a queue and vehicles that come,
-drawn by the seed. What is measured is from the first byte of a request that is written to the last of the answer that is read, so the pipes and
+Each round's state has all that the round before was answered, and tells for each link that ends at a node a queue and vehicles that come,
+drawn by the seed. The rounds after the first are asked by `next`, with what is sensed alone; with --whole each is asked by `end`, with the whole
+state. What is measured is from the first byte of a request that is written to the last of the answer that is read, so the pipes and
 Python's reading are in it. It prints the first round, which reads NET too, and the least, the median and the 90th of 100 of the others, in
-milliseconds, with the records and bytes of a state and of an answer in the mean.
+milliseconds, with the records and bytes that are sent of a state and those of an answer in the mean. The answers are the same both ways.
 """
 
 import argparse
@@ -26,7 +27,7 @@ BUSY, COMING = 0.5, 0.2  # shares of the links with a queue, and of the seconds 
 
 
 def state_of(network, now, told, random):
-    """The text of a state: what was told in the round before, and what is drawn."""
+    """The text of a state: what is given back of the round before, and what is drawn."""
     rows = ["kind,name,x,y,z", f"now,,{now},,", *told]
     for link in network["link"]:
         if "to" not in link:
@@ -44,6 +45,7 @@ def main():
     parser.add_argument("network", type=Path)
     parser.add_argument("--rounds", type=int, default=100)
     parser.add_argument("--seed", type=int, default=1)
+    parser.add_argument("--whole", action="store_true")
     parser.add_argument("--program", type=shlex.split)
     options = parser.parse_args()
     network, random = tomllib.loads(options.network.read_text()), Random(options.seed)
@@ -53,10 +55,11 @@ def main():
     with Serving(options.program or built_program_words(), options.network) as serving:
         for number in range(options.rounds):
             state = state_of(network, number * step, told, random)
+            decide = serving.decide if options.whole or number == 0 else serving.decide_next
             begin = perf_counter()
-            answer = serving.decide(state)
+            answer = decide(state)
             taken.append(1000 * (perf_counter() - begin))
-            told = answer.splitlines()[1:]
+            told = answer.splitlines()[1:] if options.whole else []
             states.append(state)
             answers.append(answer)
     later = sorted(taken[1:])
