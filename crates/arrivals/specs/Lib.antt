@@ -1,4 +1,5 @@
 pub mod Amounts
+pub mod Codes
 pub mod Faults
 pub mod Records
 pub mod Rows

@@ -4,6 +4,7 @@
 
 mod amounts;
 mod checks;
+mod fault_codes;
 mod fields;
 mod joining;
 mod row_lists;

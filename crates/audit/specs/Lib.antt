@@ -1,5 +1,6 @@
 pub mod Audits
 pub mod CleanWaits
+pub mod Codes
 pub mod LineReports
 pub mod LineRuns
 pub mod SheetEntries

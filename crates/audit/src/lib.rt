@@ -5,6 +5,7 @@
 
 mod clean_waits;
 mod counts;
+mod fault_codes;
 mod findings;
 mod line_reports;
 mod line_runs;

@@ -1,5 +1,6 @@
 pub mod Answers
 pub mod CertificateText
+pub mod Codes
 pub mod Lengths
 pub mod Lines
 pub mod Reading

@@ -1,6 +1,7 @@
 //! The text of a certificate: reading it, and writing it.
 #![tactic(auto)]
 
+mod fault_codes;
 mod lines;
 mod reading;
 mod writing;

@@ -3,6 +3,7 @@
 #![tactic(auto)]
 
 mod entries;
+mod fault_codes;
 mod faults;
 mod plans;
 mod reports;

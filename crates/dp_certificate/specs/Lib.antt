@@ -1,4 +1,5 @@
 pub mod Certificates
+pub mod Codes
 pub mod Faults
 pub mod Limits
 pub mod LowerBound

@@ -2,6 +2,7 @@
 #![tactic(auto)]
 
 mod certificates;
+mod fault_codes;
 mod lower_bound;
 mod next_entry;
 mod places;

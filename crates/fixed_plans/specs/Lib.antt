@@ -1,3 +1,4 @@
+pub mod Codes
 pub mod Cycles
 pub mod Readers
 pub mod Faults

@@ -4,6 +4,7 @@
 
 mod bounds;
 mod cycles;
+mod fault_codes;
 mod faults;
 mod fields;
 mod fixed_waits;

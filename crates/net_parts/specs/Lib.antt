@@ -1,4 +1,5 @@
 pub mod Bounds
+pub mod Codes
 pub mod FirstFaults
 pub mod Limits
 pub mod Numbers

@@ -3,6 +3,7 @@
 #![tactic(auto)]
 
 mod drafts;
+mod fault_codes;
 mod faults;
 mod limits;
 mod names;

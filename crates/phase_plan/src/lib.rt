@@ -1,6 +1,8 @@
 //! The signal phases of an intersection: their bounds, and the time that a change of phase takes.
 #![tactic(auto)]
 
+mod fault_codes;
+
 ghost use Rattle.std.specs.Prelude.{◌≡◌, ◌≢◌, ◌+◌, ◌-◌, ◌*◌, ◌^◌, ◌<◌, ◌≤◌, ◌||◌, length, map, filter, count_by, sum_by, slice_get, if◌then◌else◌, IfErr, IfNone, IfSome, OnErr, OnOk};
 ghost use Rattle.std.specs.List.{range_with_len};
 ghost use Rattle.phase_plan.specs.Phases as spec;

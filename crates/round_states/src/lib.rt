@@ -6,6 +6,7 @@ mod asked;
 mod boards;
 mod by_place;
 mod entries;
+mod fault_codes;
 mod faults;
 mod fields;
 mod kept_records;

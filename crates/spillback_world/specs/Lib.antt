@@ -1,3 +1,4 @@
+pub mod Codes
 pub mod Counting
 pub mod Filling
 pub mod Laws

@@ -6,6 +6,7 @@ mod amounts;
 mod counts;
 mod discharges;
 mod ends;
+mod fault_codes;
 mod laws;
 mod lines;
 mod searches;
