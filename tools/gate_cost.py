@@ -3,6 +3,7 @@
 
     tools/gate_cost.py [-- COMMAND ..]
     tools/gate_cost.py --functions CRATE ..
+    tools/gate_cost.py --most SECONDS [CRATE ..]
 
 The first form runs a command, `rt ci` if none is given, and watches the processes of the checker
 that it starts. At the end it prints a table with a row for each crate: the seconds that its own
@@ -12,16 +13,23 @@ run, which also has the compilers, the linker, the tests and the programs. A pro
 twice a second, so each row lacks up to half a second of each of its processes.
 
 The second form proves each crate from nothing, in a copy outside the repository with one job, and
-prints the ten dearest of its functions and of its other modules, by the seconds on the clock
-between the files that the checker keeps; nothing else should run meanwhile. It begins with `rt
-check` in the crate's folder where a library below is not built, as tools/wrong_bodies.py does.
+prints the ten dearest of its functions and of its other modules, by the seconds between the files
+that the checker keeps, times the share of a processor that the check had. It begins with `rt check`
+in the crate's folder where a library below is not built, as tools/wrong_bodies.py does.
 
-The exit status is the command's; of the second form 0, or 1 where a crate is not proved; and 2
-where the command or the crates can't be run.
+The third form does the same for the crates that are named, or for all, and fails where one has a
+function or a module above so many seconds that is not listed in tools/dear_functions.txt, or takes
+more than one and a half times the seconds listed there; and where one that is listed takes half of
+the bound or less. `rt ci` keeps no times by function, so what it has proved is proved once more for
+this: it is run for each crate that changes, and for all crates before a release.
+
+The exit status is the command's; of the other forms 0, or 1 where a crate is not proved or is too
+dear; and 2 where the command or the crates can't be run.
 """
 
 import argparse
 import os
+import re
 import resource
 import subprocess
 import sys
@@ -39,6 +47,9 @@ TICKS = os.sysconf("SC_CLK_TCK")
 OWN, TESTS, EDITS = "own", "tests", "edits"
 EDIT_FOLDERS = ("rt-edit-", "wrong-bodies-")
 DEAREST = 10
+LISTED = ROOT / "tools/dear_functions.txt"
+# What is listed may cost so many times its seconds, and leaves the list at this share of the bound: times differ from run to run.
+MORE, LESS = 1.5, 0.5
 
 
 @dataclass
@@ -176,8 +187,19 @@ def owner_of(module, paths):
     return module
 
 
+@dataclass(frozen=True)
+class Profile:
+    """What the proofs of a crate cost: whether it is proved, its seconds of a processor and on the clock, and the processor
+    seconds of each function, or else module."""
+
+    is_proved: bool
+    processor: float
+    clock: float
+    costs: Counter
+
+
 def profile(repository, crate):
-    """Proves a crate from nothing, prints its dearest functions, and answers whether it is proved."""
+    """Proves a crate from nothing, and says what that costs."""
     repository.make_ready(crate)
     with tempfile.TemporaryDirectory(prefix="gate-cost-") as place:
         copy = repository.copy(crate, Path(place))
@@ -188,32 +210,95 @@ def profile(repository, crate):
             root.write(f"// {place}\n")
         begun, before = time.monotonic(), resource.getrusage(resource.RUSAGE_CHILDREN)
         run = run_check(copy)
-        used = resource.getrusage(resource.RUSAGE_CHILDREN)
+        clock, used = time.monotonic() - begun, resource.getrusage(resource.RUSAGE_CHILDREN)
         files = [(it.stat().st_mtime, str(it.relative_to(kept))) for it in kept.rglob("*") if it.is_file()]
     processor = used.ru_utime + used.ru_stime - before.ru_utime - before.ru_stime
-    said = "proved" if run.returncode == 0 else "NOT PROVED"
-    print(f"{crate}: {said}; {processor:.0f} processor seconds, {time.monotonic() - begun:.0f} on the clock")
-    for name, seconds in costs_of(files, crate, [name for name, _, _ in VERDICT.findall(run.stdout)]).most_common(DEAREST):
+    costs, share = costs_of(files, crate, [name for name, _, _ in VERDICT.findall(run.stdout)]), min(1.0, processor / clock)
+    return Profile(run.returncode == 0, processor, clock, Counter({name: seconds * share for name, seconds in costs.items()}))
+
+
+def told_of(crate, found):
+    """The line that says what the whole of a crate costs."""
+    said = "proved" if found.is_proved else "NOT PROVED"
+    return f"{crate}: {said}; {found.processor:.0f} processor seconds, {found.clock:.0f} on the clock"
+
+
+def print_dearest(crate, found):
+    """Prints the dearest functions of a crate, and answers whether it is proved."""
+    print(told_of(crate, found))
+    for name, seconds in found.costs.most_common(DEAREST):
         print(f"{seconds:>6.1f} {name}")
-    return run.returncode == 0
+    return found.is_proved
+
+
+def listed_in(text):
+    """The seconds of each function, or else module, of a text like that of tools/dear_functions.txt, by its crate and its name."""
+    listed = {}
+    for number, line in enumerate(text.split("\n"), 1):
+        if line and not line.startswith("#"):
+            words = re.fullmatch(r"(\d+) (\w+) (\S+): (\S.*)", line)
+            if words is None or (words[2], words[3]) in listed:
+                raise Malformed(f"tools/dear_functions.txt, line {number}: no `SECONDS CRATE NAME: REASON`, or one that is there twice")
+            listed[words[2], words[3]] = int(words[1])
+    return listed
+
+
+def faults_of(crate, costs, most, listed):
+    """What is wrong with the costs of a crate's functions and modules, where none may be above so many seconds but those that are listed."""
+    faults = []
+    for name, seconds in costs.most_common():
+        bound = listed.get((crate, name))
+        if bound is None and seconds > most:
+            faults.append(f"{seconds:>6.1f} {name}")
+        elif bound is not None and seconds > max(most, MORE * bound):
+            faults.append(f"{seconds:>6.1f} {name}, which is listed with {bound}")
+    for name in [name for owner, name in listed if owner == crate]:
+        if costs[name] <= LESS * most:
+            faults.append(f"{costs[name]:>6.1f} {name}, which needs no line in tools/dear_functions.txt")
+    return faults
+
+
+def print_faults(crate, found, most, listed):
+    """Prints what is too dear in a crate, and answers whether it is proved and nothing is."""
+    print(told_of(crate, found))
+    faults = faults_of(crate, found.costs, most, listed)
+    print("\n".join(faults), end="\n" if faults else "")
+    return found.is_proved and not faults
+
+
+def by_function(options):
+    """Prints what the functions of crates cost, or which cost too much, and answers the exit status."""
+    repository = Repository(ROOT)
+    crates = options.functions or options.crates or list(repository.lines)
+    repository.require(crates)
+    if options.most is None:
+        ends = [print_dearest(crate, profile(repository, crate)) for crate in crates]
+    else:
+        listed = listed_in(LISTED.read_text(encoding="utf-8"))
+        ends = [print_faults(crate, profile(repository, crate), options.most, listed) for crate in crates]
+    return 0 if all(ends) else 1
 
 
 def main():
     words = sys.argv[1:]
     cut = words.index("--") if "--" in words else len(words)
     parser = argparse.ArgumentParser(
-        description=__doc__, usage="%(prog)s [--functions CRATE ..] [-- COMMAND ..]", formatter_class=argparse.RawDescriptionHelpFormatter
+        description=__doc__,
+        usage="%(prog)s [--functions CRATE .. | --most SECONDS [CRATE ..]] [-- COMMAND ..]",
+        formatter_class=argparse.RawDescriptionHelpFormatter,
     )
-    parser.add_argument("--functions", nargs="+", metavar="CRATE", help="crates whose dearest functions are printed")
+    how = parser.add_mutually_exclusive_group()
+    how.add_argument("--functions", nargs="+", metavar="CRATE", help="crates whose dearest functions are printed")
+    how.add_argument("--most", type=float, metavar="SECONDS", help="fails where a function takes more")
+    parser.add_argument("crates", nargs="*", metavar="CRATE", help="those that --most looks at; all, if none is named")
     options = parser.parse_args(words[:cut])
-    if options.functions and cut < len(words):
-        parser.error("--functions takes no command")
+    is_by_function = bool(options.functions) or options.most is not None
+    if is_by_function and cut < len(words):
+        parser.error("--functions and --most take no command")
+    if options.crates and options.most is None:
+        parser.error("a command stands after --")
     try:
-        if options.functions:
-            repository = Repository(ROOT)
-            repository.require(options.functions)
-            sys.exit(0 if all([profile(repository, crate) for crate in options.functions]) else 1)
-        sys.exit(watch(words[cut + 1 :] or ["rt", "ci"]))
+        sys.exit(by_function(options) if is_by_function else watch(words[cut + 1 :] or ["rt", "ci"]))
     except (Malformed, OSError) as fault:
         print(f"gate_cost: {fault}", file=sys.stderr)
         sys.exit(2)

@@ -1,12 +1,19 @@
 """Tests of tools/gate_cost.py: python3 -m unittest discover tools"""
 
+import re
 import unittest
+from collections import Counter
 
 import gate_cost
-from gate_cost import Sample
+from crates import ROOT, crate_lines
+from gate_cost import Profile, Sample
+from wrong_bodies import Malformed
 
 OWN_WORDS = ["/kit/bin/rattle", "build", "--crate-name", "roads", "src/lib.rt", "--jobs", "2", ""]
 TESTS_WORDS = ["/kit/bin/rattle", "build", "--crate-name", "roads", "src/lib.rt", "--test", ""]
+
+# How many functions tools/dear_functions.txt lists, and their seconds in all.
+FUNCTIONS_LISTED, SECONDS_LISTED = 0, 0
 
 
 class GateCostTest(unittest.TestCase):
@@ -59,6 +66,40 @@ class GateCostTest(unittest.TestCase):
         costs = gate_cost.costs_of(files, "roads", ["roads::links::Link::flow", "roads::links::Link::flow_in"])
         wanted = {"roads::links::Link::flow": 8.0, "links.Flows": 0.5, "roads::links::Link::flow_in": 0.5}
         self.assertEqual(dict(costs), wanted)
+
+    def test_what_is_too_dear(self):
+        listed = gate_cost.listed_in("# SECONDS CRATE NAME: REASON\n\n20 roads roads::join: it owns both\n14 roads links.Sums: by cases\n9 lines lines::read: ..\n")
+        self.assertEqual(listed, {("roads", "roads::join"): 20, ("roads", "links.Sums"): 14, ("lines", "lines::read"): 9})
+        costs = Counter({"roads::join": 29.0, "links.Sums": 10.2, "roads::part": 10.4, "roads::turn": 9.9})
+        self.assertEqual(gate_cost.faults_of("roads", costs, 10, listed), ["  10.4 roads::part"])
+        costs = Counter({"roads::join": 31.0, "links.Sums": 5.0})
+        found = gate_cost.faults_of("roads", costs, 10, listed)
+        wanted = ["  31.0 roads::join, which is listed with 20", "   5.0 links.Sums, which needs no line in tools/dear_functions.txt"]
+        self.assertEqual(found, wanted)
+        # One that is gone takes no time.
+        self.assertEqual(gate_cost.faults_of("lines", Counter(), 10, listed)[0].split()[:2], ["0.0", "lines::read,"])
+        self.assertEqual(gate_cost.faults_of("signs", Counter({"signs::turn": 9.0}), 10, listed), [])
+        for text in ("roads roads::join: it owns both", "20 roads roads::join", "2 a b: c\n3 a b: d"):
+            with self.assertRaises(Malformed):
+                gate_cost.listed_in(text)
+
+    def test_a_crate_that_is_not_proved(self):
+        self.assertEqual(gate_cost.told_of("roads", Profile(False, 7.4, 9.6, Counter())), "roads: NOT PROVED; 7 processor seconds, 10 on the clock")
+
+    def test_the_list_of_dear_functions_only_shrinks(self):
+        """Whoever takes a line off the list, or lowers its seconds, lowers these numbers with it. Nobody raises them."""
+        listed = gate_cost.listed_in(gate_cost.LISTED.read_text(encoding="utf-8"))
+        self.assertEqual((len(listed), sum(listed.values())), (FUNCTIONS_LISTED, SECONDS_LISTED))
+
+    def test_what_is_listed_is_there(self):
+        crates = crate_lines((ROOT / "crates.txt").read_text(encoding="utf-8"))
+        for crate, name in gate_cost.listed_in(gate_cost.LISTED.read_text(encoding="utf-8")):
+            self.assertIn(crate, crates)
+            folder, last = ROOT / "crates" / crate, re.split(r"::|\.", name)[-1]
+            sources = [it.read_text(encoding="utf-8") for it in (folder / "src").rglob("*.rt")]
+            is_function = any(re.search(rf"\bfn {last}\b", text) for text in sources)
+            is_module = any(list((folder / part).rglob(f"{last}.antt")) for part in ("proofs", "specs"))
+            self.assertTrue(is_function or is_module, name)
 
 
 if __name__ == "__main__":
