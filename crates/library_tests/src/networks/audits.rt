@@ -134,20 +134,46 @@ fn count_others(alloc: Global, net: &Network, arrivals: &Arrivals) -> Result<usi
     Ok(others)
 }
 
+/// The same of a network that the one vehicle enters.
+fn count_others_in(alloc: Global, net: &Network) -> Result<usize, Fail> {
+    if net.nodes() != 2 || net.links() != 5 {
+        return Err("another network".into());
+    }
+    let arrivals = read_arrivals(alloc, ONE_VEHICLE.as_bytes(), net)?;
+    Ok(count_others(alloc, net, &arrivals)?)
+}
+
+/// The same of the worked network.
+fn count_all_others(alloc: Global) -> Result<usize, Fail> {
+    match network(alloc, 4) {
+        Ok(net) => count_others_in(alloc, &net),
+        Err(_) => Err("no network".into()),
+    }
+}
+
 #[test]
 fn an_audit_finds_the_first_reason(rt: HostRuntime) -> Result<(), Fail> {
-    let net = network(rt.alloc(), 4)?;
-    assert_eq!(rt; (net.nodes(), net.links()), (2, 5));
-    let arrivals = read_arrivals(rt.alloc(), ONE_VEHICLE.as_bytes(), &net)?;
-    assert_eq!(rt; count_others(rt.alloc(), &net, &arrivals)?, 0);
+    assert_eq!(rt; count_all_others(rt.alloc())?, 0);
     Ok(())
+}
+
+/// What an audit finds of the report of a network that the one vehicle enters.
+fn finding_of(alloc: Global, net: &Network) -> Result<Finding, Fail> {
+    let arrivals = read_arrivals(alloc, ONE_VEHICLE.as_bytes(), net)?;
+    let sheet = read_sheet(alloc, REPORT.as_bytes(), net)?;
+    Ok(audit(alloc, net, &arrivals, sheet)?)
+}
+
+/// What an audit finds of the report of the worked network.
+fn finding(alloc: Global) -> Result<Finding, Fail> {
+    match network(alloc, 4) {
+        Ok(net) => finding_of(alloc, &net),
+        Err(_) => Err("no network".into()),
+    }
 }
 
 #[test]
 fn a_report_is_read_as_a_clean_sheet(rt: HostRuntime) -> Result<(), Fail> {
-    let net = network(rt.alloc(), 4)?;
-    let arrivals = read_arrivals(rt.alloc(), ONE_VEHICLE.as_bytes(), &net)?;
-    let sheet = read_sheet(rt.alloc(), REPORT.as_bytes(), &net)?;
-    assert_eq!(rt; audit(rt.alloc(), &net, &arrivals, sheet)?, Finding::Clean);
+    assert_eq!(rt; finding(rt.alloc())?, Finding::Clean);
     Ok(())
 }

@@ -3,6 +3,7 @@ ghost use Rattle.std.specs.Prelude.{◌<◌, length};
 
 use net_file::{read_network, write_network};
 use road_net::Network;
+use std::alloc::Global;
 use std::test::Fail;
 use worked_network::network;
 
@@ -29,12 +30,33 @@ fn are_same(net: &Network, other: &Network) -> bool {
     net.run() == other.run() && net.conflicts() == other.conflicts()
 }
 
+/// Whether a text is read as a network.
+fn is_text_of(alloc: Global, text: &[u8], net: &Network) -> Result<bool, Fail> {
+    if text.len() > 10_000 {
+        return Err("a long text".into());
+    }
+    match read_network(alloc, text) {
+        Ok(back) => Ok(are_same(net, &back)),
+        Err(_) => Err("no network again".into()),
+    }
+}
+
+/// Whether what is written of a network is read as that network.
+fn is_read_as_it_was(alloc: Global, net: &Network) -> Result<bool, Fail> {
+    let text = write_network(alloc, net)?;
+    is_text_of(alloc, &text, net)
+}
+
+/// Whether what is written of the worked network is read as that network.
+fn is_read_again(alloc: Global) -> Result<bool, Fail> {
+    match network(alloc, 4) {
+        Ok(net) => is_read_as_it_was(alloc, &net),
+        Err(_) => Err("no network".into()),
+    }
+}
+
 #[test]
 fn a_written_network_is_read_as_it_was(rt: HostRuntime) -> Result<(), Fail> {
-    let net = network(rt.alloc(), 4)?;
-    let text = write_network(rt.alloc(), &net)?;
-    assert!(rt; text.len() < 10_000);
-    let back = read_network(rt.alloc(), &text)?;
-    assert!(rt; are_same(&net, &back));
+    assert!(rt; is_read_again(rt.alloc())?);
     Ok(())
 }

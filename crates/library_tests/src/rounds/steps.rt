@@ -62,9 +62,21 @@ fn answers(rt: HostRuntime) -> Result<(), Fail> {
 
 /// What a core of the worked network answers when these nodes are asked to act.
 fn answer<P: Planner>(alloc: Global, nodes: &str, planner: &mut P) -> Result<String, Fail> {
-    let net = network(alloc, 4)?;
-    let arrivals = read_arrivals(alloc, ONE_VEHICLE.as_bytes(), &net)?;
-    Ok(stepped(alloc, &net, &arrivals, nodes, planner)?)
+    match network(alloc, 4) {
+        Ok(net) => answer_of(alloc, &net, nodes, planner),
+        Err(_) => Err("no network".into()),
+    }
+}
+
+/// What a core of a network that the one vehicle enters answers when these nodes are asked to act.
+fn answer_of<P: Planner>(
+    alloc: Global,
+    net: &Network,
+    nodes: &str,
+    planner: &mut P,
+) -> Result<String, Fail> {
+    let arrivals = read_arrivals(alloc, ONE_VEHICLE.as_bytes(), net)?;
+    Ok(stepped(alloc, net, &arrivals, nodes, planner)?)
 }
 
 /// What a core answers when these nodes are asked to act.

@@ -35,5 +35,8 @@ pub(crate) fn gate_of(first: (u32, u32), second: (u32, u32)) -> MeetingGate {
     MeetingGate::new(place, first, second)
 }
 
+/// What the gate of a pair has met, and how many vehicles, in thousandths, entered.
+pub(crate) type Played = ([u64; 4], u64);
+
 /// What the gate has met after four rounds: each node's reading in each round, none in vain, and all board steps announced.
 pub(crate) const MET: [u64; 4] = [4, 4, 0, 16];

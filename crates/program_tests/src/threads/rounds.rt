@@ -5,7 +5,7 @@ ghost use Rattle.link_boards.specs.Passes.{AreAllPasses, fresh_passes};
 ghost use Rattle.node_rounds.specs.Calls.{node_calls};
 
 use super::copies::{network_of_copies, vehicles_of_copies};
-use super::pairs::{COPIES, MET, PAIRS, can_meet, gate_of};
+use super::pairs::{COPIES, MET, PAIRS, Played, can_meet, gate_of};
 use crate::gates::meeting::MeetingGate;
 use arrivals::{Arrivals, read_arrivals};
 use forward_dp::LayerPlanner;
@@ -63,19 +63,54 @@ fn play_anew<R: Threads + Wait + Sync>(
     )
 }
 
+/// What the gate of each pair has met, and how many vehicles, in thousandths, entered.
+fn play_pairs<R: Threads + Wait + Sync>(
+    rt: &R,
+    alloc: Global,
+    net: &Network,
+    arrivals: &Arrivals,
+) -> Result<Vec<Played>, AllocError>
+    requires { AreArrivals net.now arrivals.now }
+{
+    let mut played = Vec::new(alloc);
+    for &[first, second] in PAIRS {
+        let gate = gate_of(first, second);
+        let entered = play_anew(rt, &gate, alloc, net, arrivals)?;
+        played.push((gate.met(), entered))?;
+    }
+    Ok(played)
+}
+
+/// The same in a network of the copies.
+fn play_copies<R: Threads + Wait + Sync>(
+    rt: &R,
+    alloc: Global,
+    net: &Network,
+) -> Result<Vec<Played>, Fail> {
+    let vehicles = vehicles_of_copies(alloc, COPIES)?;
+    let arrivals = read_arrivals(alloc, vehicles.as_bytes(), net)?;
+    Ok(play_pairs(rt, alloc, net, &arrivals)?)
+}
+
+/// The same in the network of a text.
+fn play_text<R: Threads + Wait + Sync>(
+    rt: &R,
+    alloc: Global,
+    text: &str,
+) -> Result<Vec<Played>, Fail> {
+    match network_of(alloc, text) {
+        Ok(net) => play_copies(rt, alloc, &net),
+        Err(_) => Err("no network".into()),
+    }
+}
+
 #[test]
 fn two_reads_inside(rt: HostRuntime) -> Result<(), Fail> {
     if !can_meet(&rt) {
         return Ok(());
     }
-    let alloc = rt.alloc();
-    let net = network_of(alloc, network_of_copies(alloc, COPIES)?.as_str())?;
-    let arrivals = read_arrivals(alloc, vehicles_of_copies(alloc, COPIES)?.as_bytes(), &net)?;
-    for (place, &[first, second]) in PAIRS.iter().enumerate() {
-        let gate = gate_of(first, second);
-        let entered = play_anew(&rt, &gate, alloc, &net, &arrivals)?;
-        assert_eq!(rt; gate.met(), MET, "pair {place}");
-        assert!(rt; entered == 5000);
-    }
+    let text = network_of_copies(rt.alloc(), COPIES)?;
+    let played = play_text(&rt, rt.alloc(), text.as_str())?;
+    assert_eq!(rt; played.as_slice(), [(MET, 5000); PAIRS.len()].as_slice());
     Ok(())
 }
