@@ -85,12 +85,12 @@ fn is_plain(parts: &Parts) -> bool
     ensures { IsTrue result ↔ IsPlain (net_of parts.now) }
 {
     let is_small = is_small(parts);
-    let names_none = parts
+    let names_no_further = parts
         .also_links
         .iter()
         .all(|phases| names_none(phases.as_slice()));
-    names_none
-        && parts.yields.iter().all(|links| links.as_slice().is_empty())
+    names_no_further
+        && names_none(parts.yields.as_slice())
         && parts.links.iter().all(|link| link.walk.is_none())
         && parts.plans.iter().all(|plan| !plan.is_free())
         && is_small

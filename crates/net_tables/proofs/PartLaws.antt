@@ -4,8 +4,8 @@ use Rattle.std.specs.Prelude.{codes}
 use Rattle.toml.specs.Data.{Data, Members, as_table}
 use Rattle.foundation.specs.Options.{◌>>=◌}
 use Rattle.phase_plan.specs.declared.Phase.{Phase}
-use Rattle.net_tables.specs.Parts.{numbers_at, optional_numbers_at, run_fields, phase_times, phase_fields, link_numbers, link_ends, link_fields}
-use Rattle.net_tables.specs.Table.{PhaseForm, LinkForm, only, run_keys, run_of, is_third, phase_keys, phase_keys_in, phase_form, link_keys, link_keys_in, link_form, number_at, optional_number_at, flag_at, weight_at, text_at, optional_text_at, list_at, optional_list_at, yields_at, walk_at}
+use Rattle.net_tables.specs.Parts.{numbers_at, optional_numbers_at, top_keys, top_lists, top_fields, run_fields, phase_times, phase_fields, link_numbers, link_ends, link_fields}
+use Rattle.net_tables.specs.Table.{TopForm, PhaseForm, LinkForm, only, top_form, table_at, run_keys, run_of, is_third, phase_keys, phase_keys_in, phase_form, link_keys, link_keys_in, link_form, number_at, optional_number_at, flag_at, weight_at, text_at, optional_text_at, list_at, optional_list_at, yields_at, walk_at}
 use Rattle.net_parts.specs.declared.drafts.Run.{Run}
 
 -- two options one after the other, as one
@@ -56,6 +56,29 @@ pairs-link (Some n) (Some a) (Some b) None f t y v l k = refl
 pairs-link (Some n) (Some a) (Some b) (Some w) None t y v l k = refl
 pairs-link (Some n) (Some a) (Some b) (Some w) (Some f) None y v l k = refl
 pairs-link (Some n) (Some a) (Some b) (Some w) (Some f) (Some t) y v l k = refl
+
+-- three options one after the other, as one
+abbrev lists : {X : Type 0} → Option X → Option X → Option X → Option (X × X × X)
+lists a b c = a >>= λ x. b >>= λ y. c >>= λ z. Some (x, y, z)
+
+-- two options, and three as one
+lists-top : {X Y Z W : Type 0} (a : Option X) (b : Option Y) (c d e : Option Z) (k : X → Y → Z → Z → Z → W)
+    → (a >>= λ a. b >>= λ b. c >>= λ c. d >>= λ d. e >>= λ e. Some (k a b c d e))
+    ≡ (a >>= λ a. b >>= λ b. lists c d e >>= λ l. Some (k a b l.0 l.1 l.2))
+lists-top None b c d e k = refl
+lists-top (Some a) None c d e k = refl
+lists-top (Some a) (Some b) None d e k = refl
+lists-top (Some a) (Some b) (Some c) None e k = refl
+lists-top (Some a) (Some b) (Some c) (Some d) None k = refl
+lists-top (Some a) (Some b) (Some c) (Some d) (Some e) k = refl
+
+-- the own form of the whole file, in a table that has its keys and no other
+pub top-by_fields : (ms inner : Members) → Some inner ≡ only top_keys ms → top_form ms ≡ top_fields inner
+unfolding top_form top_fields top_lists top_keys
+top-by_fields ms inner is =
+    rw (← is)
+    (lists-top (optional_number_at (codes "version") inner) (table_at (codes "run") inner) (list_at (codes "node") inner) (list_at (codes "link") inner) (optional_list_at (codes "conflict") inner)
+    (λ version run nodes links conflicts. let form : TopForm = record { version = version; run = run; nodes = nodes; links = links; conflicts = conflicts } in form))
 
 -- the run of a table that has its keys and no other
 pub run-by_fields : (ms inner : Members) → Some inner ≡ only run_keys ms → run_of ms ≡ run_fields inner

@@ -1,9 +1,9 @@
 -- The keys of a table in the groups in which the reader takes them. No public clause names these.
-use Rattle.std.specs.Prelude.{codes, ℕ, false, List, Option, Some, is_some}
-use Rattle.toml.specs.Data.{Members}
+use Rattle.std.specs.Prelude.{codes, ℕ, false, List, [], ◌∷◌, Option, Some, is_some}
+use Rattle.toml.specs.Data.{Data, Members}
 use Rattle.foundation.specs.Options.{◌>>=◌}
 use Rattle.phase_plan.specs.declared.Phase.{Phase}
-use Rattle.net_tables.specs.Table.{PhaseForm, LinkForm, number_at, optional_number_at, flag_at, weight_at, text_at, optional_text_at, list_at, optional_list_at, yields_at, walk_at}
+use Rattle.net_tables.specs.Table.{TopForm, PhaseForm, LinkForm, table_at, number_at, optional_number_at, flag_at, weight_at, text_at, optional_text_at, list_at, optional_list_at, yields_at, walk_at}
 use Rattle.net_parts.specs.declared.drafts.Run.{Run}
 
 -- the whole numbers at two keys
@@ -19,6 +19,26 @@ optional_numbers_at first second ms = do
   a ← optional_number_at first ms
   b ← optional_number_at second ms
   Some (a, b)
+
+-- the keys of the whole file
+unfoldable pub top_keys : List (List ℕ)
+top_keys = codes "run" ∷ codes "node" ∷ codes "link" ∷ codes "conflict" ∷ codes "version" ∷ []
+
+-- the nodes, the links and the conflicts of the whole file
+unfoldable pub top_lists : Members → Option (List Data × List Data × List Data)
+top_lists ms = do
+  nodes ← list_at (codes "node") ms
+  links ← list_at (codes "link") ms
+  conflicts ← optional_list_at (codes "conflict") ms
+  Some (nodes, links, conflicts)
+
+-- what the whole file has at its keys
+unfoldable pub top_fields : Members → Option TopForm
+top_fields ms = do
+  version ← optional_number_at (codes "version") ms
+  run ← table_at (codes "run") ms
+  lists ← top_lists ms
+  Some (record { version = version; run = run; nodes = lists.0; links = lists.1; conflicts = lists.2 })
 
 -- what a run has at its keys
 unfoldable pub run_fields : Members → Option Run

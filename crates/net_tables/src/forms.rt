@@ -25,7 +25,7 @@ pub(crate) struct TopForm<'a> {
 }
 
 /// The own form of the whole file.
-#[tactic(auto, unfolding(crate::specs::Table::top_form))]
+#[tactic(auto, unfolding(crate::specs::Table::top_form, crate::specs::Parts::top_keys))]
 pub(crate) fn top_form(table: &Table) -> Option<TopForm>
     ensures { MatchOption result (spec.top_form (table_view table.now) ≡ None)
         (λ top. spec.top_form (table_view table.now) ≡ Some (record {
@@ -36,15 +36,51 @@ pub(crate) fn top_form(table: &Table) -> Option<TopForm>
           conflicts = map view top.conflicts.now;
         })) }
 {
-    let keys = ["run", "node", "link", "conflict", "version"];
-    let table = only(table, &keys)?;
+    top_fields(only_top_keys(table)?)
+}
+
+/// The table, where it has no key beside those of the whole file.
+#[tactic(auto, unfolding(crate::specs::Parts::top_keys))]
+fn only_top_keys(table: &Table) -> Option<&Table>
+    ensures { option_map (λ table. table_view table.now) result ≡ spec.only parts.top_keys (table_view table.now) }
+{
+    only(table, &["run", "node", "link", "conflict", "version"])
+}
+
+/// What the whole file has at its keys.
+#[tactic(auto, unfolding(crate::specs::Parts::top_fields))]
+fn top_fields(table: &Table) -> Option<TopForm>
+    ensures { MatchOption result (parts.top_fields (table_view table.now) ≡ None)
+        (λ top. parts.top_fields (table_view table.now) ≡ Some (record {
+          version = top.version;
+          run = table_view top.run.now;
+          nodes = map view top.nodes.now;
+          links = map view top.links.now;
+          conflicts = map view top.conflicts.now;
+        })) }
+{
+    let version = optional_number_at(table, "version")?;
+    let run = table_at(table, "run")?;
+    let (nodes, links, conflicts) = top_lists(table)?;
     Some(TopForm {
-        version: optional_number_at(table, "version")?,
-        run: table_at(table, "run")?,
-        nodes: list_at(table, "node")?,
-        links: list_at(table, "link")?,
-        conflicts: optional_list_at(table, "conflict")?,
+        version,
+        run,
+        nodes,
+        links,
+        conflicts,
     })
+}
+
+/// The lists of the nodes, the links and the conflicts.
+#[tactic(auto, unfolding(crate::specs::Parts::top_lists))]
+fn top_lists(table: &Table) -> Option<(&[Value], &[Value], &[Value])>
+    ensures { option_map (λ lists. (map view lists.0.now, map view lists.1.now, map view lists.2.now)) result
+        ≡ parts.top_lists (table_view table.now) }
+{
+    let nodes = list_at(table, "node")?;
+    let links = list_at(table, "link")?;
+    let conflicts = optional_list_at(table, "conflict")?;
+    Some((nodes, links, conflicts))
 }
 
 /// The run.

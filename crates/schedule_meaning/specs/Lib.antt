@@ -1,5 +1,6 @@
 pub mod Best
 pub mod Choice
+pub mod Codes
 pub mod Faults
 pub mod Instances
 pub mod Listing

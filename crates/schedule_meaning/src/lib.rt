@@ -1,6 +1,7 @@
 //! One intersection's instance, what a sequence of servings means, and which answer is the best.
 #![tactic(auto)]
 
+mod fault_codes;
 mod faults;
 mod instances;
 mod listing;

@@ -98,6 +98,23 @@ fn other_threads<T: Task + Drop>(
     Ok(others)
 }
 
+// All threads' ends of all slots: those of the calling one, and the others.
+fn all_threads<T: Task + Drop>(
+    alloc: Global,
+    slots: &[Slot<T>],
+    owners: &mut [SlotOwner<T>],
+    threads: usize,
+) -> Result<(Vec<SlotWorker<T>>, Vec<PoolThread<T>>), AllocError>
+    requires owners { AreOwnersOf slots.now owners.old × AreEmpty owners.old }
+    ensures owners { AreOwnersOf slots.now owners.new × AreEmpty owners.new }
+    ensures workers { IfOk result (λ r. AreWorkersOf slots.now r.0.items) }
+    ensures threads { IfOk result (λ r. AreThreadsOf slots.now r.1.items) }
+{
+    let workers = new_workers(alloc, slots, owners)?;
+    let others = other_threads(alloc, slots, owners, threads)?;
+    Ok((workers, others))
+}
+
 // Does the job, and closes the slots. Gives the ends that closed them beside what the job gives.
 fn run_and_close<T: Task + Drop, R: Threads + Wait + Sync, J: PoolJob<T> + Drop>(
     rt: &R,
@@ -166,13 +183,12 @@ impl<T: Task + Drop + Send> TaskPool<T> {
         ensures { IfOk result (λ pool. pool ≡ slots) }
     {
         let (slots, mut owners) = new_slots(alloc, slots)?;
-        let workers = new_workers(alloc, slots.as_slice(), owners.as_mut_slice())?;
-        let others = other_threads(alloc, slots.as_slice(), owners.as_mut_slice(), threads)?;
+        let all = all_threads(alloc, slots.as_slice(), owners.as_mut_slice(), threads)?;
         Ok(TaskPool {
             slots,
             owners,
-            workers,
-            others,
+            workers: all.0,
+            others: all.1,
         })
     }
 

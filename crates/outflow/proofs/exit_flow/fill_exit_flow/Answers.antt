@@ -1,4 +1,4 @@
-use Rattle.std.proofs.Common.{ap, get_or, subst, sym, ◌+◌, ◌-◌, arith}
+use Rattle.std.proofs.Common.{ap, get_or, length, subst, sym, ◌+◌, ◌-◌, arith}
 use Rattle.net_parts.specs.declared.roads.Link.{Link}
 use Rattle.outflow.proofs.ServedLaws.{IsFilling, clear-after, filling-all, filling-more, filling-none, found-fit, listed, no_served, phase-below, phases-few, platoon-found, platoon-there, serving-late, zeros}
 use Rattle.outflow.proofs.exit_flow.fill_exit_flow.Goals as goal
@@ -11,6 +11,9 @@ loop-i-init c =
 
 pub bounds-taken-k : goal.bounds-taken-k
 bounds-taken-k c = omega (arith, phases-few c.args.net.now c.args.node c.args.now c.args.window.now.lists c.link-travel.ensures.network c.requires.node c.requires.platoons, phase-below c.args.net.now c.args.node c.args.exit c.args.now c.args.window.now.lists c.args.servings.now.phases.now c.args.servings.now.served.now c.loop-i.taken c.loop-i.amounts c.loop-i.i c.requires.platoons c.loop-i.invariant (omega arith))
+
+pub bounds-as_slice-k : goal.bounds-as_slice-k
+bounds-as_slice-k c = omega (arith, ap length c.as_slice.ensures, phase-below c.args.net.now c.args.node c.args.exit c.args.now c.args.window.now.lists c.args.servings.now.phases.now c.args.servings.now.served.now c.loop-i.taken c.loop-i.amounts c.loop-i.i c.requires.platoons c.loop-i.invariant (omega arith))
 
 pub returns-in_default : goal.returns-in_default
 returns-in_default c =

@@ -1,5 +1,9 @@
-use Rattle.std.proofs.Common.{◌≡◌, ◌+◌, length, sym, subst, ◌∙◌, arith}
+use Rattle.std.proofs.Common.{◌≡◌, ◌+◌, ◌^◌, ◌<◌, Some, length, sym, subst, ◌∙◌, arith}
 use Rattle.std.proofs.lemmas.List.{get_or_default}
+use Rattle.std.specs.Prelude.{slice_get, slice_index}
+use Rattle.schedule_meaning.specs.Instances.{list_at}
+use Rattle.dp_certificate.specs.Certificates.{IsEntry}
+use Rattle.forward_dp.specs.declared.rows.Row.{Row}
 use Rattle.forward_dp.specs.Groups.{AreReachedBy, no_row}
 use Rattle.forward_dp.proofs.Reaching.{arrives, kept-may, reached-more, reached-none, reached-start, waits-may}
 use Rattle.forward_dp.proofs.groups.Reached.reach.Goals as goal
@@ -7,6 +11,23 @@ use Rattle.forward_dp.proofs.groups.Reached.reach.Goals.{in-Some+in_ok-take_in, 
 
 pub loop-row-init : goal.loop-row-init
 loop-row-init g c = record { reached = reached-start c.args.i.now c.args.limit c.args.phase c.args.cluster.now c.args.source.now c.args.self.now c.requires.empty; remaining = c.new-remaining.ensures c.args.i.now; cost = omega arith }
+
+pub serve_within-requires-clause-entry : goal.serve_within-requires-clause-entry
+serve_within-requires-clause-entry g c =
+    let n = c.loop-row.row-index in
+    subst (λ (r : Row). IsEntry c.args.i.now r.entry) (get_or_default c.args.source.now n no_row _ c.loop-row-test.true ∙ sym c.row-item.is) (c.requires.source.entries n no_row c.loop-row-test.true)
+
+pub serve_within-requires-clause-cluster : goal.serve_within-requires-clause-cluster
+serve_within-requires-clause-cluster g c =
+    let n = c.loop-row.row-index in
+    let k = c.args.phase in
+    subst (λ (r : Row). slice_get (list_at c.args.i.now.lists k) (slice_index r.entry.counts k) ≡ Some c.args.cluster.now) (get_or_default c.args.source.now n no_row _ c.loop-row-test.true ∙ sym c.row-item.is)
+    (c.requires.source.next n no_row c.loop-row-test.true)
+
+pub followed_by-order-requires : goal.followed_by-order-requires
+followed_by-order-requires g c =
+    let n = c.loop-row.row-index in
+    record { few = subst (λ (r : Row). r.order < 4 ^ 40) (get_or_default c.args.source.now n no_row _ c.loop-row-test.true ∙ sym c.row-item.is) (c.requires.source.orders n no_row c.loop-row-test.true) }
 
 pub take_in-requires-clause-kept : goal.take_in-requires-clause-kept
 take_in-requires-clause-kept g c =
