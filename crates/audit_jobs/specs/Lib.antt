@@ -1,1 +1,4 @@
 pub mod Findings
+pub mod Kinds
+pub mod Meanings
+pub mod Verdicts

@@ -4,17 +4,18 @@ ghost use Rattle.std.specs.Fmt.{decimal};
 ghost use Rattle.arrivals.specs.Amounts.{AreArrivals, arriving_of};
 ghost use Rattle.net_parts.specs.Outline.{node_name_at};
 ghost use Rattle.audit.specs.SheetTexts.{HasShape};
-ghost use Rattle.command_words.specs.Calls.{Audit};
-ghost use Rattle.commands.specs.{Ending.IsMadeOf, Ending.Makes, Outcome.Outcome, Verdicts.finding_text, Verdicts.unclean_line};
-ghost use Rattle.audit_jobs.specs.Findings.{NamesPart};
+ghost use Rattle.commands.specs.{Ending.IsMadeOf, Outcome.Outcome};
+ghost use Rattle.audit_jobs.specs.{Findings.NamesPart, Meanings.audit_meaning, Verdicts.finding_text, Verdicts.unclean_line};
 
+use crate::kinds::SheetFile;
 use arrivals::Arrivals;
 use audit::{AuditWhy, Finding, Sheet, audit};
-use commands::{Made, Refusal, SceneWith, Status, end, fetch_scene_with};
+use commands::{Made, Refusal, Status, Work, job};
 use outside_world::{Shelf, Sink};
 use road_net::Network;
+use scene_jobs::{SceneWith, fetch_scene_with};
 use std::alloc::{AllocError, Global};
-use text_faults::push_one;
+use text_lines::push_one;
 
 /// What is written for a sheet that is not clean. `Err`: out of memory.
 pub(crate) fn unclean_line(
@@ -76,7 +77,7 @@ fn verdict(
     requires shape { HasShape net.now sheet }
     requires rows { All (λ rows. length rows < 2 ^ 32) sheet.lines }
     ensures { (file arr report : List ℕ) → IfOk result (λ made.
-        IsMadeOf (Audit file arr report) made (net.now, (arriving_of arrivals.now, (sheet, tt)))) }
+        IsMadeOf (audit_meaning file arr report) made (net.now, (arriving_of arrivals.now, (sheet, tt)))) }
 {
     match audit(alloc, net, arrivals, sheet)? {
         Finding::Clean => {
@@ -90,22 +91,28 @@ fn verdict(
     }
 }
 
-// The verdict on the report in a file, with the network and the arrivals in the others.
-fn audit_files<S: Shelf>(
-    alloc: Global,
-    shelf: &mut S,
-    net: &str,
-    arr: &str,
-    report: &str,
-) -> Result<Made, Refusal>
-    ensures { Makes (Audit net.now arr.now report.now) (S.state shelf.old) (S.state shelf.new) result }
-{
-    let SceneWith {
-        scene,
-        value: sheet,
-    } = fetch_scene_with(alloc, shelf, net, arr, report)?;
-    let made = verdict(alloc, &scene.network, &scene.arrivals, sheet)?;
-    Ok(made)
+/// `audit` with the names of its files.
+#[derive(Clone, Copy)]
+struct AuditWork<'a> {
+    net: &'a str,
+    arr: &'a str,
+    report: &'a str,
+}
+
+impl Work for AuditWork<'_> {
+    ghost use Rattle.audit_jobs.specs.Meanings.{audit_meaning};
+
+    ghost means = { λ work. audit_meaning work.net.now work.arr.now work.report.now };
+
+    // The verdict on the report in a file, with the network and the arrivals in the others.
+    fn make<S: Shelf>(&self, alloc: Global, shelf: &mut S) -> Result<Made, Refusal> {
+        let SceneWith {
+            scene,
+            value: sheet,
+        } = fetch_scene_with::<SheetFile, S>(alloc, shelf, self.net, self.arr, self.report)?;
+        let made = verdict(alloc, &scene.network, &scene.arrivals, sheet)?;
+        Ok(made)
+    }
 }
 
 /// The command `audit NET ARR REPORT`: writes the verdict on what a report says, whoever wrote it: that its greens are lawful and
@@ -124,9 +131,10 @@ pub fn audit_job<S: Shelf, O: Sink, E: Sink>(
     out: &mut O,
     err: &mut E,
 ) -> Status
-    ensures { Outcome (Audit net.now arr.now report.now)
+    ensures { Outcome (audit_meaning net.now arr.now report.now)
         (record { shelf = S.state shelf.old; out = O.state out.old; err = E.state err.old })
         (record { shelf = S.state shelf.new; out = O.state out.new; err = E.state err.new }) result }
 {
-    end(alloc, audit_files(alloc, shelf, net, arr, report), out, err)
+    let work = AuditWork { net, arr, report };
+    job(alloc, &work, shelf, out, err)
 }

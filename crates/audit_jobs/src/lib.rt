@@ -2,6 +2,7 @@
 #![tactic(auto)]
 
 mod audits;
+mod kinds;
 mod queues;
 
 pub use audits::audit_job;

@@ -2,16 +2,18 @@
 ghost use Rattle.std.specs.Prelude.{◌≡◌, ◌<◌, ◌^◌, List, ℕ, All, IfOk, length};
 ghost use Rattle.arrivals.specs.Amounts.{AreArrivals, arriving_of};
 ghost use Rattle.audit.specs.SheetTexts.{HasShape};
-ghost use Rattle.command_words.specs.Calls.{Queues};
-ghost use Rattle.commands.specs.{Ending.IsMadeOf, Ending.Makes, Outcome.Outcome};
+ghost use Rattle.commands.specs.{Ending.IsMadeOf, Outcome.Outcome};
+ghost use Rattle.audit_jobs.specs.Meanings.{queues_meaning};
 
-use super::audits::unclean_line;
+use crate::audits::unclean_line;
+use crate::kinds::SheetFile;
 use arrivals::Arrivals;
 use audit::{Audited, Sheet, audit_lines};
-use commands::{Made, Refusal, SceneWith, Status, end, fetch_scene_with};
+use commands::{Made, Refusal, Status, Work, job};
 use outside_world::{Shelf, Sink};
 use queue_series::queue_series;
 use road_net::Network;
+use scene_jobs::{SceneWith, fetch_scene_with};
 use std::alloc::{AllocError, Global};
 
 // The queues under the greens of a clean sheet, or why it is not clean, whatever files it and the others stand in.
@@ -26,7 +28,7 @@ fn queues(
     requires shape { HasShape net.now sheet }
     requires rows { All (λ rows. length rows < 2 ^ 32) sheet.lines }
     ensures { (file arr report : List ℕ) → IfOk result (λ made.
-        IsMadeOf (Queues file arr report) made (net.now, (arriving_of arrivals.now, (sheet, tt)))) }
+        IsMadeOf (queues_meaning file arr report) made (net.now, (arriving_of arrivals.now, (sheet, tt)))) }
 {
     match audit_lines(alloc, net, arrivals, sheet)? {
         Audited::Clean(lines) => {
@@ -40,22 +42,28 @@ fn queues(
     }
 }
 
-// The queues under the greens of the report in a file, with the network and the arrivals in the others.
-fn queues_files<S: Shelf>(
-    alloc: Global,
-    shelf: &mut S,
-    net: &str,
-    arr: &str,
-    report: &str,
-) -> Result<Made, Refusal>
-    ensures { Makes (Queues net.now arr.now report.now) (S.state shelf.old) (S.state shelf.new) result }
-{
-    let SceneWith {
-        scene,
-        value: sheet,
-    } = fetch_scene_with(alloc, shelf, net, arr, report)?;
-    let made = queues(alloc, &scene.network, &scene.arrivals, sheet)?;
-    Ok(made)
+/// `queues` with the names of its files.
+#[derive(Clone, Copy)]
+struct QueuesWork<'a> {
+    net: &'a str,
+    arr: &'a str,
+    report: &'a str,
+}
+
+impl Work for QueuesWork<'_> {
+    ghost use Rattle.audit_jobs.specs.Meanings.{queues_meaning};
+
+    ghost means = { λ work. queues_meaning work.net.now work.arr.now work.report.now };
+
+    // The queues under the greens of the report in a file, with the network and the arrivals in the others.
+    fn make<S: Shelf>(&self, alloc: Global, shelf: &mut S) -> Result<Made, Refusal> {
+        let SceneWith {
+            scene,
+            value: sheet,
+        } = fetch_scene_with::<SheetFile, S>(alloc, shelf, self.net, self.arr, self.report)?;
+        let made = queues(alloc, &scene.network, &scene.arrivals, sheet)?;
+        Ok(made)
+    }
 }
 
 /// The command `queues NET ARR REPORT`: writes how long the queues are and what is on the links, second by second, under the
@@ -73,14 +81,10 @@ pub fn queues_job<S: Shelf, O: Sink, E: Sink>(
     out: &mut O,
     err: &mut E,
 ) -> Status
-    ensures { Outcome (Queues net.now arr.now report.now)
+    ensures { Outcome (queues_meaning net.now arr.now report.now)
         (record { shelf = S.state shelf.old; out = O.state out.old; err = E.state err.old })
         (record { shelf = S.state shelf.new; out = O.state out.new; err = E.state err.new }) result }
 {
-    end(
-        alloc,
-        queues_files(alloc, shelf, net, arr, report),
-        out,
-        err,
-    )
+    let work = QueuesWork { net, arr, report };
+    job(alloc, &work, shelf, out, err)
 }

@@ -1,6 +1,5 @@
 pub mod Fetching
-pub mod Kept
-pub mod NoReading
+pub mod Flawed
 pub mod Outcomes
 pub mod Stopping
 pub mod TextLaws

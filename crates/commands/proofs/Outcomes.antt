@@ -4,8 +4,6 @@ use Rattle.std.specs.Result.{IsErrAnd}
 use Rattle.std.specs.Prelude.{◌⊎◌}
 use Rattle.outside_world.specs.Shelf.{ShelfState}
 use Rattle.outside_world.specs.Sink.{Breaks, Gains, Rose, one_more}
-use Rattle.dp_certificate.specs.Certificates.{Claim}
-use Rattle.certificate_form.specs.CertificateText.{certificate_text}
 use Rattle.commands.specs.declared.ending.Made.{Made}
 use Rattle.commands.specs.declared.ending.Made.TheVariants as made
 use Rattle.commands.specs.declared.refusals.TextPlace.{TextPlace}
@@ -13,9 +11,8 @@ use Rattle.commands.specs.declared.refusals.Refusal.{Refusal}
 use Rattle.commands.specs.declared.refusals.Refusal.TheVariants as refusal
 use Rattle.commands.specs.declared.status.Status.{Status}
 use Rattle.commands.specs.declared.status.Status.TheVariants.{Done, Rejected, BadInput, ReadFault, WriteFault, NoMemory}
-use Rattle.command_words.specs.Calls.{Call}
-use Rattle.commands.specs.Commands.{IsAgainst, IsMissing, IsRejectionOf, IsTextOf, MissesNothing, texts_of}
-use Rattle.commands.specs.Ending.{Ends, EndsCertificate, Explains, Makes, MakesCertificate}
+use Rattle.commands.specs.Meanings.{Meaning, MissesNothing}
+use Rattle.commands.specs.Ending.{Ends, Explains, Makes}
 use Rattle.commands.specs.Outcome.{IsBadInput, IsUnread, Outcome, Outside, Read}
 use Rattle.commands.specs.Refusals.{Says}
 use Rattle.commands.specs.Stops.{StopsIn}
@@ -26,16 +23,16 @@ use Rattle.commands.proofs.TextLaws.{as_told, none_bad, none_gains, none_told_ba
 risen : (before now : ℕ) → now ≡ one_more before → Rose before now
 risen before now more = omega (arith, more)
 
-module _ (call : Call) (old new : Outside) where
+module _ (call : Meaning) (old new : Outside) where
   -- what is so of the texts that were read is so of those that are told
-  told_so : (holds : AllSaid (texts_of call) → Type 0) (read said : AllSaid (texts_of call)) → AreIn old.shelf.files (texts_of call) read → Tells old.shelf.files (texts_of call) said → holds read → holds said
-  told_so holds read said are told h = as_told old.shelf.files (texts_of call) read said are told holds h
+  told_so : (holds : AllSaid call.texts → Type 0) (read said : AllSaid call.texts) → AreIn old.shelf.files call.texts read → Tells old.shelf.files call.texts said → holds read → holds said
+  told_so holds read said are told h = as_told old.shelf.files call.texts read said are told holds h
 
-  none_refused : (said : AllSaid (texts_of call)) → AreIn old.shelf.files (texts_of call) said → (place : TextPlace) → TellsBad old.shelf.files (texts_of call) place → ⊥
-  none_refused said are place bad = none_told_bad old.shelf.files (texts_of call) said place are bad
+  none_refused : (said : AllSaid call.texts) → AreIn old.shelf.files call.texts said → (place : TextPlace) → TellsBad old.shelf.files call.texts place → ⊥
+  none_refused said are place bad = none_told_bad old.shelf.files call.texts said place are bad
 
-  done : (text : List ℕ) (status : Status) → new.shelf ≡ old.shelf
-      → Read call old.shelf.files (λ said. (IsTextOf call said text × ¬ IsAgainst call said) × MissesNothing call said)
+  pub done : (text : List ℕ) (status : Status) → new.shelf ≡ old.shelf
+      → Read call old.shelf.files (λ said. (call.writes said text × ¬ call.against said) × MissesNothing call said)
       → status ≡ Done → Gains old.out new.out text → new.err ≡ old.err → Outcome call old new status
   done text status same read is gains err = record {
     done = λ e. (read.0, read.1, (text, read.2.0.0, gains));
@@ -52,11 +49,11 @@ module _ (call : Call) (old new : Outside) where
     refused = λ place bad e. absurd (none_refused read.0 read.1 place bad);
     missing = λ said told what misses e. absurd (told_so (MissesNothing call) read.0 said read.1 told read.2.1 what misses);
     complete = λ said told none for e kept. inl is;
-    against = λ said told none against e kept. absurd (told_so (λ s. ¬ IsAgainst call s) read.0 said read.1 told read.2.0.1 against);
+    against = λ said told none against e kept. absurd (told_so (λ s. ¬ call.against s) read.0 said read.1 told read.2.0.1 against);
   }
 
   rejected : (text : List ℕ) (status : Status) → new.shelf ≡ old.shelf
-      → Read call old.shelf.files (λ said. (IsRejectionOf call said text × IsAgainst call said) × MissesNothing call said)
+      → Read call old.shelf.files (λ said. (call.rejects said text × call.against said) × MissesNothing call said)
       → status ≡ Rejected → Gains old.out new.out text → new.err ≡ old.err → Outcome call old new status
   rejected text status same read is gains err = record {
     done = λ e. absurd (cc);
@@ -72,12 +69,12 @@ module _ (call : Call) (old new : Outside) where
     err = λ e. err;
     refused = λ place bad e. absurd (none_refused read.0 read.1 place bad);
     missing = λ said told what misses e. absurd (told_so (MissesNothing call) read.0 said read.1 told read.2.1 what misses);
-    complete = λ said told none for e kept. absurd (for (told_so (IsAgainst call) read.0 said read.1 told read.2.0.1));
+    complete = λ said told none for e kept. absurd (for (told_so (call.against) read.0 said read.1 told read.2.0.1));
     against = λ said told none against e kept. inl is;
   }
 
-  broken : (text : List ℕ) (status : Status) → new.shelf ≡ old.shelf
-      → Read call old.shelf.files (λ said. (IsTextOf call said text ⊎ IsRejectionOf call said text) × MissesNothing call said)
+  pub broken : (text : List ℕ) (status : Status) → new.shelf ≡ old.shelf
+      → Read call old.shelf.files (λ said. (call.writes said text ⊎ call.rejects said text) × MissesNothing call said)
       → status ≡ WriteFault → Breaks old.out new.out text → Says refusal.Unwritten old.err new.err → Outcome call old new status
   broken text status same read is breaks line = record {
     done = λ e. absurd (cc);
@@ -97,7 +94,7 @@ module _ (call : Call) (old new : Outside) where
     against = λ said told none against e kept. absurd (kept (risen _ _ breaks.faults));
   }
 
-  wants : (status : Status) → new.shelf ≡ old.shelf → status ≡ NoMemory → new.out ≡ old.out → Says refusal.NoMemory old.err new.err → Outcome call old new status
+  pub wants : (status : Status) → new.shelf ≡ old.shelf → status ≡ NoMemory → new.out ≡ old.out → Says refusal.NoMemory old.err new.err → Outcome call old new status
   wants status same is left line = record {
     done = λ e. absurd (cc);
     rejected = λ e. absurd (cc);
@@ -118,7 +115,7 @@ module _ (call : Call) (old new : Outside) where
 
   -- the input is bad, and where the shelf tells its texts, they are not all read and their words miss nothing
   bad : (why : Refusal) (status : Status) → new.shelf ≡ old.shelf → IsBadInput call old.shelf.files why
-      → ((said : AllSaid (texts_of call)) → Tells old.shelf.files (texts_of call) said → MissesNothing call said → ⊥)
+      → ((said : AllSaid call.texts) → Tells old.shelf.files call.texts said → MissesNothing call said → ⊥)
       → status ≡ BadInput → new.out ≡ old.out → Says why old.err new.err → Outcome call old new status
   bad why status same input never is left line = record {
     done = λ e. absurd (cc);
@@ -141,7 +138,7 @@ module _ (call : Call) (old new : Outside) where
   unread : (place : TextPlace) (status : Status) → new.shelf.files ≡ old.shelf.files → IsUnread call old.shelf new.shelf place
       → status ≡ ReadFault → new.out ≡ old.out → Says (refusal.Unread place) old.err new.err → Outcome call old new status
   unread place status files at is left line =
-      let gained : new.shelf ≡ old.shelf → ⊥ = λ e. none_gains old.shelf.failed new.shelf.failed old.shelf.files (texts_of call) place at (ap (λ (s : ShelfState). s.failed) e) in record {
+      let gained : new.shelf ≡ old.shelf → ⊥ = λ e. none_gains old.shelf.failed new.shelf.failed old.shelf.files call.texts place at (ap (λ (s : ShelfState). s.failed) e) in record {
         done = λ e. absurd (cc);
         rejected = λ e. absurd (cc);
         usage = λ e. cc;
@@ -159,18 +156,18 @@ module _ (call : Call) (old new : Outside) where
         against = λ said told none against e kept. absurd (gained e);
       }
 
-  refuses : (why : Refusal) (status : Status) → Explains call old.shelf new.shelf why → Ends (Err why) old.out new.out old.err new.err status → Outcome call old new status
+  pub refuses : (why : Refusal) (status : Status) → Explains call old.shelf new.shelf why → Ends (Err why) old.out new.out old.err new.err status → Outcome call old new status
   refuses refusal.Usage status makes ends = absurd makes
   refuses refusal.Unwritten status makes ends = absurd makes
   refuses refusal.NoMemory status makes (left, inl said) = wants status makes said.0 left said.1
   refuses refusal.NoMemory status makes (left, inr said) = absurd said.0
   refuses (refusal.Unread place) status makes (left, inl said) = unread place status makes.0 makes.1 said.0 left said.1
   refuses (refusal.Unread place) status makes (left, inr said) = absurd said.0
-  refuses (refusal.Bad place why) status makes (left, inl said) =
-      bad (refusal.Bad place why) status makes.0 makes.1 (λ said told none. none_bad old.shelf.files (texts_of call) said place why told makes.1) said.0 left said.1
-  refuses (refusal.Bad place why) status makes (left, inr said) = wants status makes.0 said.1 left said.2
+  refuses (refusal.Bad place code) status makes (left, inl said) =
+      bad (refusal.Bad place code) status makes.0 makes.1 (λ said told none. none_bad old.shelf.files call.texts said place code.items told makes.1) said.0 left said.1
+  refuses (refusal.Bad place code) status makes (left, inr said) = wants status makes.0 said.1 left said.2
   refuses (refusal.Missing what) status makes (left, inl said) =
-      bad (refusal.Missing what) status makes.0 makes.1 (λ said told none. none what (told_so (λ s. IsMissing call s what) makes.1.0 said makes.1.1 told makes.1.2)) said.0 left said.1
+      bad (refusal.Missing what) status makes.0 makes.1 (λ said told none. none what (told_so (λ s. call.misses s what) makes.1.0 said makes.1.1 told makes.1.2)) said.0 left said.1
   refuses (refusal.Missing what) status makes (left, inr said) = absurd said.0
 
   -- a command ends as the table of answers says
@@ -181,23 +178,15 @@ module _ (call : Call) (old new : Outside) where
   outcome (Ok (made.Rejected text)) status makes (inr b) = broken text.items status makes.0 (makes.1.0, makes.1.1, (inr makes.1.2.0.0, makes.1.2.1)) b.is b.breaks b.line
   outcome (Err why) status makes ends = refuses why status makes ends
 
-  -- and so does one that writes a certificate
-  pub certificate_outcome : (result : Result Claim Refusal) (status : Status) → MakesCertificate call old.shelf new.shelf result → EndsCertificate result old.out new.out old.err new.err status → Outcome call old new status
-  certificate_outcome (Ok c) status makes (inl w) = done (certificate_text c) status makes.0 makes.1 w.is w.gains w.same
-  certificate_outcome (Ok c) status makes (inr (inl b)) = broken (certificate_text c) status makes.0 (makes.1.0, makes.1.1, (inl makes.1.2.0.0, makes.1.2.1)) b.is b.breaks b.line
-  certificate_outcome (Ok c) status makes (inr (inr (left, inl said))) = wants status makes.0 said.0 left said.1
-  certificate_outcome (Ok c) status makes (inr (inr (left, inr said))) = absurd said.0
-  certificate_outcome (Err why) status makes ends = refuses why status makes ends
-
 -- why the texts of a command could not be had explains why it made nothing
-explained : (call : Call) (old new : ShelfState) (why : Refusal) → StopsIn (texts_of call) old new why → Explains call old new why
+explained : (call : Meaning) (old new : ShelfState) (why : Refusal) → StopsIn call.texts old new why → Explains call old new why
 explained call old new (refusal.Missing what) stops = absurd stops
 explained call old new _ stops = stops
 
 -- what explains it is the answer
-pub handed_on : (call : Call) (old new : ShelfState) (result : Result Made Refusal) (why : Refusal) → Explains call old new why → IsErrAnd result (λ e. e ≡ why) → Makes call old new result
+pub handed_on : (call : Meaning) (old new : ShelfState) (result : Result Made Refusal) (why : Refusal) → Explains call old new why → IsErrAnd result (λ e. e ≡ why) → Makes call old new result
 handed_on call old new (Ok made) why explains handed = absurd handed
 handed_on call old new (Err e) why explains handed = subst (Explains call old new) (sym handed) explains
 
-pub failed : (call : Call) (old new : ShelfState) (result : Result Made Refusal) (why : Refusal) → StopsIn (texts_of call) old new why → IsErrAnd result (λ e. e ≡ why) → Makes call old new result
+pub failed : (call : Meaning) (old new : ShelfState) (result : Result Made Refusal) (why : Refusal) → StopsIn call.texts old new why → IsErrAnd result (λ e. e ≡ why) → Makes call old new result
 failed call old new result why stops handed = handed_on call old new result why (explained call old new why stops) handed

@@ -1,7 +1,6 @@
 -- What is so of the texts of a command.
 use Rattle.std.proofs.Common.{◌≡◌, ℕ, List, [], ◌∷◌, ◌++◌, length, Option, Some, None, IsSome, refl, sym, ap, subst, ◌∙◌, length-append, arith}
 use Rattle.outside_world.specs.Shelf.{Files, GainsLast}
-use Rattle.text_faults.specs.declared.bad_texts.BadText.{BadText}
 use Rattle.commands.specs.declared.refusals.TextPlace.{TextPlace}
 use Rattle.commands.specs.declared.refusals.TextPlace.TheVariants.{First, Second, Third}
 use Rattle.commands.specs.Kinds.{Kind}
@@ -21,12 +20,12 @@ read_once files name kind said other text is told reads =
     is.only other (subst (λ (t : List ℕ). Reads kind t other) (same_text (text_of files name) text is.text told (is.told (some_files files name text told))) reads)
 
 -- a text that is read is not bad
-not_bad : (files : Files) (name : List ℕ) (kind : Kind) (said : kind.Said) (text : List ℕ) (why : BadText) → text_of files name ≡ Some text → Reads kind text said → IsBad files why kind name → ⊥
+not_bad : (files : Files) (name : List ℕ) (kind : Kind) (said : kind.Said) (text : List ℕ) (why : List ℕ) → text_of files name ≡ Some text → Reads kind text said → IsBad files why kind name → ⊥
 not_bad files name kind said text why is reads bad =
     bad.unread said (subst (λ (t : List ℕ). Reads kind t said) (same_text (text_of files name) text bad.text is (bad.told (some_files files name text is))) reads)
 
 -- of texts that are told and read none is bad
-pub none_bad : (files : Files) (texts : Texts) (said : AllSaid texts) (place : TextPlace) (why : BadText) → Tells files texts said → At (IsBad files why) files texts place → ⊥
+pub none_bad : (files : Files) (texts : Texts) (said : AllSaid texts) (place : TextPlace) (why : List ℕ) → Tells files texts said → At (IsBad files why) files texts place → ⊥
 none_bad files NoMore said place why tells at = at
 none_bad files (Next kind name rest) said First why tells at = not_bad files name kind said.0 tells.0.0 why tells.0.1 tells.0.2 at
 none_bad files (Next kind name rest) said Second why tells at =

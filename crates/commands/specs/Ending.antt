@@ -2,10 +2,7 @@
 use Rattle.std.specs.Prelude.{◌≡◌, ℕ, List, Result, Ok, Err, ◌⊎◌}
 use Rattle.outside_world.specs.Shelf.{ShelfState}
 use Rattle.outside_world.specs.Sink.{Breaks, Gains, SinkState}
-use Rattle.dp_certificate.specs.Certificates.{Claim}
-use Rattle.certificate_form.specs.CertificateText.{certificate_text}
-use Rattle.command_words.specs.Calls.{Call}
-use Rattle.commands.specs.Commands.{IsAgainst, IsRejectionOf, IsTextOf, MissesNothing, texts_of}
+use Rattle.commands.specs.Meanings.{Meaning, MissesNothing}
 use Rattle.commands.specs.Outcome.{IsBadInput, Read}
 use Rattle.commands.specs.Refusals.{Refuses, Says}
 use Rattle.commands.specs.Stops.{StopsIn}
@@ -18,17 +15,17 @@ use Rattle.commands.specs.declared.status.Status.{Status}
 use Rattle.commands.specs.declared.status.Status.TheVariants.{Done, Rejected, WriteFault}
 
 -- why a command made nothing: its texts could not be had, or its words name what is not in them
-abbrev pub Explains : Call → ShelfState → ShelfState → Refusal → Type 0
+abbrev pub Explains : Meaning → ShelfState → ShelfState → Refusal → Type 0
 Explains call old new (refusal.Missing what) = (new ≡ old) × IsBadInput call old.files (refusal.Missing what)
-Explains call old new why = StopsIn (texts_of call) old new why
+Explains call old new why = StopsIn call.texts old new why
 
 -- what was made is what the command writes for texts that say this
-abbrev pub IsMadeOf : (call : Call) → Made → AllSaid (texts_of call) → Type 0
-IsMadeOf call (made.Done text) said = IsTextOf call said text.items × ¬ IsAgainst call said
-IsMadeOf call (made.Rejected text) said = IsRejectionOf call said text.items × IsAgainst call said
+abbrev pub IsMadeOf : (call : Meaning) → Made → AllSaid call.texts → Type 0
+IsMadeOf call (made.Done text) said = call.writes said text.items × ¬ call.against said
+IsMadeOf call (made.Rejected text) said = call.rejects said text.items × call.against said
 
 -- what a command made of its texts, in which its words miss nothing, or why it made nothing
-abbrev pub Makes : Call → ShelfState → ShelfState → Result Made Refusal → Type 0
+abbrev pub Makes : Meaning → ShelfState → ShelfState → Result Made Refusal → Type 0
 Makes call old new (Ok made) = (new ≡ old) × Read call old.files (λ said. IsMadeOf call made said × MissesNothing call said)
 Makes call old new (Err why) = Explains call old new why
 
@@ -57,14 +54,3 @@ pub record IsBroken (bytes : List ℕ) (out out' err err' : SinkState) (status :
 abbrev pub Ends : Result Made Refusal → SinkState → SinkState → SinkState → SinkState → Status → Type 0
 Ends (Ok made) out out' err err' status = IsWritten (bytes_of made) (made_status made) out out' err err' status ⊎ IsBroken (bytes_of made) out out' err err' status
 Ends (Err why) out out' err err' status = (out' ≡ out) × Refuses why err err' status
-
--- a command made a certificate of its texts, in which its words miss nothing, and writes its text; or why it made none
-abbrev pub MakesCertificate : Call → ShelfState → ShelfState → Result Claim Refusal → Type 0
-MakesCertificate call old new (Ok c) = (new ≡ old) × Read call old.files (λ said. (IsTextOf call said (certificate_text c) × ¬ IsAgainst call said) × MissesNothing call said)
-MakesCertificate call old new (Err why) = Explains call old new why
-
--- how a certificate is answered, for whose text memory may run out before anything is written; or how a refusal is
-abbrev pub EndsCertificate : Result Claim Refusal → SinkState → SinkState → SinkState → SinkState → Status → Type 0
-EndsCertificate (Ok c) out out' err err' status =
-    IsWritten (certificate_text c) Done out out' err err' status ⊎ IsBroken (certificate_text c) out out' err err' status ⊎ ((out' ≡ out) × Refuses refusal.NoMemory err err' status)
-EndsCertificate (Err why) out out' err err' status = (out' ≡ out) × Refuses why err err' status

@@ -2,7 +2,6 @@
 use Rattle.std.specs.Prelude.{◌≡◌, ℕ, List, [], ◌∷◌, ◌++◌, ◌⊎◌, codes}
 use Rattle.std.specs.Fmt.{decimal}
 use Rattle.outside_world.specs.Sink.{Breaks, Gains, SinkState}
-use Rattle.text_faults.specs.Codes.{code_of}
 use Rattle.commands.specs.declared.refusals.Named.{Named}
 use Rattle.commands.specs.declared.refusals.Named.TheVariants.{Factor, Node, Round}
 use Rattle.commands.specs.declared.refusals.TextPlace.{TextPlace}
@@ -40,10 +39,14 @@ missing_line Node = codes "signal: bad node\n"
 missing_line Round = codes "signal: bad round\n"
 missing_line Factor = codes "signal: bad factor\n"
 
+-- the line for a text that is refused, with this code
+abbrev pub bad_line : TextPlace → List ℕ → List ℕ
+bad_line text code = codes "signal: bad " ++ (decimal (number_of text) ++ 32 ∷ code) ++ 10 ∷ []
+
 -- the line of a refusal
 abbrev pub line_of : Refusal → List ℕ
 line_of refusal.Usage = codes "signal: usage\n"
-line_of (refusal.Bad text why) = codes "signal: bad " ++ (decimal (number_of text) ++ 32 ∷ code_of why) ++ 10 ∷ []
+line_of (refusal.Bad text code) = bad_line text code.items
 line_of (refusal.Missing what) = missing_line what
 line_of (refusal.Unread text) = unread_line text
 line_of refusal.Unwritten = codes "signal: cannot write\n"
@@ -52,7 +55,7 @@ line_of refusal.NoMemory = codes "signal: no memory\n"
 -- the status of a refusal
 abbrev pub status_of : Refusal → Status
 status_of refusal.Usage = Usage
-status_of (refusal.Bad text why) = BadInput
+status_of (refusal.Bad text code) = BadInput
 status_of (refusal.Missing what) = BadInput
 status_of (refusal.Unread text) = ReadFault
 status_of refusal.Unwritten = WriteFault
@@ -68,7 +71,7 @@ Says why old new = Writes (line_of why) old new
 
 -- the line of this refusal takes memory
 abbrev pub TakesMemory : Refusal → Type 0
-TakesMemory (refusal.Bad text why) = Unit {0}
+TakesMemory (refusal.Bad text code) = Unit {0}
 TakesMemory _ = ⊥
 
 -- a refusal was answered with its status and its line, or with `NoMemory`, where there is no memory for the line

@@ -1,11 +1,8 @@
 -- The texts of a command: what each is to be, what it says, and what is wrong with it.
-use Rattle.std.specs.Prelude.{◌≡◌, ℕ, ◌<◌, ◌≤◌, List, length, Option, Some, IsSome, option_and_then}
+use Rattle.std.specs.Prelude.{◌≡◌, ℕ, ◌<◌, ◌≤◌, List, ◌⊎◌, codes, length, Option, Some, IsSome, option_and_then}
 use Rattle.outside_world.specs.Shelf.{Files, file_of}
-use Rattle.net_parts.specs.Numbers.{Net}
-use Rattle.commands.specs.Kinds.{ArrivalsText, Kind, NetworkText}
+use Rattle.commands.specs.Kinds.{Kind}
 use Rattle.commands.specs.Limits.{most_bytes}
-use Rattle.text_faults.specs.declared.bad_texts.BadText.{BadText}
-use Rattle.text_faults.specs.declared.bad_texts.BadText.TheVariants.{Long}
 use Rattle.commands.specs.declared.refusals.TextPlace.{TextPlace}
 use Rattle.commands.specs.declared.refusals.TextPlace.TheVariants.{First, Second, Third}
 
@@ -18,10 +15,16 @@ pub record IsReadAs (kind : Kind) (text : List ℕ) (said : kind.Said) : Type 0 
   pub reads : Reads kind text said
   pub only : (other : kind.Said) → Reads kind text other → said ≡ other
 
--- why a text is refused: it is longer than the limit; or it is within the limit, and this is its first fault
-abbrev pub HasFault : Kind → List ℕ → BadText → Type 0
-HasFault kind text Long = most_bytes < length text
-HasFault kind text why = (length text ≤ most_bytes) × kind.is_fault text why
+-- a text within the limit has this fault, its first, with this code
+pub record HasFault (kind : Kind) (text code : List ℕ) : Type 0 where
+  pub short : length text ≤ most_bytes
+  pub fault : kind.Fault
+  pub is : kind.is_fault text fault
+  pub code_is : code ≡ kind.code fault
+
+-- why a text is refused, by its code: it is longer than the limit; or it is within the limit, and has a fault
+abbrev pub HasCode : Kind → List ℕ → List ℕ → Type 0
+HasCode kind text code = ((code ≡ codes "long") × (most_bytes < length text)) ⊎ HasFault kind text code
 
 -- the text of a file, where the shelf tells its files
 abbrev pub text_of : Files → List ℕ → Option (List ℕ)
@@ -34,12 +37,12 @@ pub record IsIn (files : Files) (name : List ℕ) (kind : Kind) (said : kind.Sai
   pub reads : Reads kind text said
   pub only : (other : kind.Said) → Reads kind text other → said ≡ other
 
--- a file's text is read as nothing of its kind, and this is why
-pub record IsBad (files : Files) (why : BadText) (kind : Kind) (name : List ℕ) : Type 0 where
+-- a file's text is read as nothing of its kind, and this is the code of what is wrong with it
+pub record IsBad (files : Files) (code : List ℕ) (kind : Kind) (name : List ℕ) : Type 0 where
   pub text : List ℕ
   pub told : IsSome files → text_of files name ≡ Some text
   pub unread : (said : kind.Said) → ¬ Reads kind text said
-  pub fault : HasFault kind text why
+  pub fault : HasCode kind text code
 
 -- The texts of a command, in the order of its words: none any more, or one in the file with this name, and those after
 -- it, which may depend on what it says.
@@ -47,14 +50,9 @@ pub data Texts : Type 1 where
   NoMore : Texts
   Next : (kind : Kind) → (name : List ℕ) → (kind.Said → Texts) → Texts
 
--- a network's text, and one of a kind that holds the network
-abbrev pub two_texts : (Net → Kind) → List ℕ → List ℕ → Texts
-two_texts kind net second = Next NetworkText net (λ network. Next (kind network) second (λ said. NoMore))
-
--- a network's text, one of arrivals at it, and one of a kind that holds the network
-abbrev pub three_texts : (Net → Kind) → List ℕ → List ℕ → List ℕ → Texts
-three_texts kind net arr third =
-    Next NetworkText net (λ network. Next (ArrivalsText network) arr (λ arriving. Next (kind network) third (λ said. NoMore)))
+-- one text of a kind
+abbrev pub one_text : Kind → List ℕ → Texts
+one_text kind name = Next kind name (λ said. NoMore)
 
 -- what such texts say, one after another
 abbrev pub AllSaid : Texts → Type 0

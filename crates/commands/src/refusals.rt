@@ -1,12 +1,11 @@
 //! Why a command is refused, and the line that says so.
 ghost use Rattle.std.specs.Prelude.{◌≡◌, IfOk};
-ghost use Rattle.commands.specs.{Refusals.Refuses, Refusals.Writes, Refusals.line_of, Refusals.missing_line, Refusals.number_of, Refusals.unread_line};
-ghost use Rattle.commands.specs.declared.refusals.Refusal.TheVariants as refusal;
+ghost use Rattle.commands.specs.{Refusals.Refuses, Refusals.Writes, Refusals.bad_line, Refusals.missing_line, Refusals.number_of, Refusals.unread_line};
 
 use super::status::Status;
 use outside_world::Sink;
 use std::alloc::{AllocError, Global};
-use text_faults::{BadText, push_code, push_one};
+use text_lines::push_one;
 
 /// Which of a command's texts, in the order of its words.
 ///
@@ -37,12 +36,12 @@ pub enum Named {
 /// Why a command is refused.
 ///
 /// docs/FORMATS.md, "Exit statuses and lines of refusal".
-#[derive(Debug, Clone, Copy, PartialEq, Eq)]
+#[derive(Debug, Drop)]
 pub enum Refusal {
     /// The words are no command.
     Usage,
-    /// The text at this place is refused.
-    Bad { text: TextPlace, why: BadText },
+    /// The text at this place is refused, with the code of what is wrong with it.
+    Bad { text: TextPlace, code: Vec<u8> },
     /// All texts are read, and a word names what is not in them, or the arrivals cannot be scaled by a factor.
     Missing { what: Named },
     /// The text at this place can't be read.
@@ -77,7 +76,7 @@ pub fn refuse<E: Sink>(alloc: Global, why: Refusal, err: &mut E) -> Status
         Refusal::Unread { text } => say(unread_line(text), Status::ReadFault, err),
         Refusal::Unwritten => say(b"signal: cannot write\n", Status::WriteFault, err),
         Refusal::NoMemory => say(b"signal: no memory\n", Status::NoMemory, err),
-        Refusal::Bad { text, why } => match bad_line(alloc, text, why) {
+        Refusal::Bad { text, code } => match bad_line(alloc, text, &code) {
             Ok(line) => say(&line, Status::BadInput, err),
             Err(AllocError) => say(b"signal: no memory\n", Status::NoMemory, err),
         },
@@ -115,14 +114,14 @@ fn missing_line(what: Named) -> &'static [u8]
     }
 }
 
-// The line for a text that is refused.
-fn bad_line(alloc: Global, text: TextPlace, why: BadText) -> Result<Vec<u8>, AllocError>
-    ensures { IfOk result (λ line. line.items ≡ line_of (refusal.Bad text why)) }
+// The line for a text that is refused, with this code.
+fn bad_line(alloc: Global, text: TextPlace, code: &[u8]) -> Result<Vec<u8>, AllocError>
+    ensures { IfOk result (λ line. line.items ≡ bad_line text code.now) }
 {
     let mut line = Vec::new(alloc);
     push_one(&mut line, b"signal: bad ", number_of(text))?;
     line.extend_from_slice(b" ")?;
-    push_code(&mut line, why)?;
+    line.extend_from_slice(code)?;
     line.extend_from_slice(b"\n")?;
     Ok(line)
 }

@@ -9,15 +9,15 @@ use Rattle.net_parts.specs.Limits.{most_of_all}
 use Rattle.outside_world.specs.Shelf.{ShelfState}
 use Rattle.net_parts.specs.Numbers.{Net}
 use Rattle.arrivals.specs.Scaling.{scaled_whole}
-use Rattle.command_words.specs.Calls.{Scale}
-use Rattle.commands.specs.Commands.{MissesNothing}
-use Rattle.commands.specs.Controllers.{BringTooMuch, IsScaleLine, IsScaleTable, factors}
+use Rattle.commands.specs.Meanings.{MissesNothing}
+use Rattle.controller_jobs.specs.Controllers.{BringTooMuch, IsScaleLine, IsScaleTable, factors}
 use Rattle.commands.specs.Ending.{Explains}
-use Rattle.commands.specs.Kinds.{ArrivalsText, NetworkText}
+use Rattle.scene_jobs.specs.Kinds.{ArrivalsText, NetworkText}
 use Rattle.commands.specs.Texts.{IsIn}
 use Rattle.commands.specs.declared.refusals.Named.TheVariants.{Factor, Node, Round}
 use Rattle.commands.specs.declared.refusals.Refusal.{Refusal}
 use Rattle.commands.specs.declared.refusals.Refusal.TheVariants as refusal
+use Rattle.controller_jobs.specs.Meanings.{scale_meaning}
 use Rattle.controller_jobs.specs.Factors.{GainsScaleLine, RefusesFactor, RefusesFactors}
 
 zip-push : {X Y : Type 0} (R : X → Y → Type 0) (xs : List X) (ys : List Y) (x : X) (y : Y) → AllZip R xs ys → R x y → AllZip R (xs ++ x ∷ []) (ys ++ y ∷ [])
@@ -88,7 +88,7 @@ module _ (net : Net) (arriving : ℕ → ℕ → ℕ) (first step : ℕ) where
 module _ (net arr : List ℕ) (first last step : ℕ) (network : Net) (arriving : ℕ → ℕ → ℕ) where
   -- it explains that nothing was made
   pub refused : (old new : ShelfState) (why : Refusal) → new ≡ old → IsIn old.files net NetworkText network → IsIn old.files arr (ArrivalsText network) arriving
-      → RefusesFactors network arriving (factors first last step) why → Explains (Scale net arr first last step) old new why
+      → RefusesFactors network arriving (factors first last step) why → Explains (scale_meaning net arr first last step) old new why
   refused old new (refusal.Missing Factor) same is bring over = (same, ((network, (arriving, tt)), (is, (bring, tt)), over))
   refused old new (refusal.Missing Node) same is bring over = absurd over
   refused old new (refusal.Missing Round) same is bring over = absurd over
@@ -99,7 +99,7 @@ module _ (net arr : List ℕ) (first last step : ℕ) (network : Net) (arriving 
   refused old new refusal.Unwritten same is bring over = over
 
   -- where none is refused, nothing is missing
-  pub none-missing : (BringTooMuch network arriving (factors first last step) → ⊥) → MissesNothing (Scale net arr first last step) (network, (arriving, tt))
+  pub none-missing : (BringTooMuch network arriving (factors first last step) → ⊥) → MissesNothing (scale_meaning net arr first last step) (network, (arriving, tt))
   none-missing few Factor over = few over
   none-missing few Node missing = missing
   none-missing few Round missing = missing

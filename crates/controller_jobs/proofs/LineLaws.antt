@@ -3,7 +3,8 @@ use Rattle.std.proofs.Common.{◌≡◌, ℕ, List, [], ◌∷◌, ◌++◌, cod
 use Rattle.std.specs.Fmt.{decimal}
 use Rattle.std.specs.List.{join_with_byte}
 use Rattle.net_simulator.specs.declared.totals.Totals.{Totals}
-use Rattle.commands.specs.Summary.{scale_line, totals_words}
+use Rattle.bounded_runs.specs.Totals.{totals_words}
+use Rattle.controller_jobs.specs.Controllers.{scale_line}
 
 line-parts : (text : List ℕ) (factor : ℕ) (a b : Totals)
     → (((text ++ decimal factor) ++ 32 ∷ join_with_byte 32 (codes "planned" ∷ totals_words a)) ++ 32 ∷ join_with_byte 32 (codes "actuated" ∷ totals_words b)) ++ 10 ∷ []

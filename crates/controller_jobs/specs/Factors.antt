@@ -3,7 +3,7 @@ use Rattle.std.specs.Prelude.{◌≡◌, ℕ, ◌<◌, List, ◌++◌}
 use Rattle.net_parts.specs.Limits.{most_of_all}
 use Rattle.net_parts.specs.Numbers.{Net}
 use Rattle.arrivals.specs.Scaling.{scaled_whole}
-use Rattle.commands.specs.Controllers.{BringTooMuch, IsScaleLine}
+use Rattle.controller_jobs.specs.Controllers.{BringTooMuch, IsScaleLine}
 use Rattle.commands.specs.declared.refusals.Named.TheVariants.{Factor}
 use Rattle.commands.specs.declared.refusals.Refusal.{Refusal}
 use Rattle.commands.specs.declared.refusals.Refusal.TheVariants as refusal

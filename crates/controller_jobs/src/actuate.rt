@@ -1,15 +1,16 @@
 //! The command `actuate NET ARR`.
 ghost use Rattle.std.specs.Prelude.{IfOk};
 ghost use Rattle.arrivals.specs.Amounts.{AreArrivals, arriving_of};
-ghost use Rattle.command_words.specs.Calls.{Actuate};
-ghost use Rattle.commands.specs.{Controllers.IsActuatedReport, Controllers.IsActuatedRun, Ending.Makes, Outcome.Outcome};
+ghost use Rattle.commands.specs.Outcome.{Outcome};
+ghost use Rattle.controller_jobs.specs.{Controllers.IsActuatedReport, Controllers.IsActuatedRun, Meanings.actuate_meaning};
 ghost use Rattle.audit.specs.{Audits.IsClean, LineRuns.sheet_of, SheetTexts.HasShape};
 
 use actuated::{ActRecord, act_report, run_actuated};
 use arrivals::Arrivals;
-use commands::{Made, Refusal, Status, end, fetch_scene};
+use commands::Status;
 use outside_world::{Shelf, Sink};
 use road_net::{Network, law_of_network};
+use scene_jobs::{SceneWork, scene_job};
 use std::alloc::{AllocError, Global};
 
 /// The run of a network under actuated control, with all that it keeps. `Err`: out of memory.
@@ -37,18 +38,23 @@ fn report_actuated(alloc: Global, net: &Network, arrivals: &Arrivals) -> Result<
     Ok(text)
 }
 
-// The report of the run under actuated control, with the network and the arrivals in the files.
-fn actuate_files<S: Shelf>(
-    alloc: Global,
-    shelf: &mut S,
-    net: &str,
-    arr: &str,
-) -> Result<Made, Refusal>
-    ensures { Makes (Actuate net.now arr.now) (S.state shelf.old) (S.state shelf.new) result }
-{
-    let scene = fetch_scene(alloc, shelf, net, arr)?;
-    let text = report_actuated(alloc, &scene.network, &scene.arrivals)?;
-    Ok(Made::Done(text))
+/// `actuate`.
+#[derive(Debug, Clone, Copy, PartialEq, Eq)]
+struct ActuateWork;
+
+impl SceneWork for ActuateWork {
+    ghost use Rattle.controller_jobs.specs.Controllers.{IsActuatedReport};
+
+    ghost writes = { λ work. IsActuatedReport };
+
+    fn write(
+        &self,
+        alloc: Global,
+        net: &Network,
+        arrivals: &Arrivals,
+    ) -> Result<Vec<u8>, AllocError> {
+        report_actuated(alloc, net, arrivals)
+    }
 }
 
 /// The command `actuate NET ARR`: writes the report of the run under actuated control, with the network and the arrivals in the
@@ -65,9 +71,9 @@ pub fn actuate_job<S: Shelf, O: Sink, E: Sink>(
     out: &mut O,
     err: &mut E,
 ) -> Status
-    ensures { Outcome (Actuate net.now arr.now)
+    ensures { Outcome (actuate_meaning net.now arr.now)
         (record { shelf = S.state shelf.old; out = O.state out.old; err = E.state err.old })
         (record { shelf = S.state shelf.new; out = O.state out.new; err = E.state err.new }) result }
 {
-    end(alloc, actuate_files(alloc, shelf, net, arr), out, err)
+    scene_job(alloc, &ActuateWork, net, arr, shelf, out, err)
 }

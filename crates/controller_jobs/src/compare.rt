@@ -1,15 +1,17 @@
 //! The command `compare NET ARR`.
 ghost use Rattle.std.specs.Prelude.{IfOk};
 ghost use Rattle.arrivals.specs.Amounts.{AreArrivals, arriving_of};
-ghost use Rattle.command_words.specs.Calls.{Compare};
-ghost use Rattle.commands.specs.{Controllers.AreActuatedTotals, Controllers.ArePlannedTotals, Controllers.IsComparison, Ending.Makes, Outcome.Outcome};
+ghost use Rattle.commands.specs.Outcome.{Outcome};
+ghost use Rattle.controller_jobs.specs.{Controllers.AreActuatedTotals, Controllers.ArePlannedTotals, Controllers.IsComparison, Meanings.compare_meaning};
 
 use super::actuate::actuated_run;
 use arrivals::Arrivals;
-use commands::{Made, Refusal, Status, end, fetch_scene, push_totals, turn_totals};
+use bounded_runs::{push_totals, turn_totals};
+use commands::Status;
 use net_simulator::Totals;
 use outside_world::{Shelf, Sink};
 use road_net::Network;
+use scene_jobs::{SceneWork, scene_job};
 use std::alloc::{AllocError, Global};
 
 /// The totals of the run of the turn order. `Err`: out of memory.
@@ -55,18 +57,23 @@ pub(crate) fn comparison(
     Ok(text)
 }
 
-// The totals of both runs, with the network and the arrivals in the files.
-fn compare_files<S: Shelf>(
-    alloc: Global,
-    shelf: &mut S,
-    net: &str,
-    arr: &str,
-) -> Result<Made, Refusal>
-    ensures { Makes (Compare net.now arr.now) (S.state shelf.old) (S.state shelf.new) result }
-{
-    let scene = fetch_scene(alloc, shelf, net, arr)?;
-    let text = comparison(alloc, &scene.network, &scene.arrivals)?;
-    Ok(Made::Done(text))
+/// `compare NET ARR`.
+#[derive(Debug, Clone, Copy, PartialEq, Eq)]
+struct CompareWork;
+
+impl SceneWork for CompareWork {
+    ghost use Rattle.controller_jobs.specs.Controllers.{IsComparison};
+
+    ghost writes = { λ work. IsComparison };
+
+    fn write(
+        &self,
+        alloc: Global,
+        net: &Network,
+        arrivals: &Arrivals,
+    ) -> Result<Vec<u8>, AllocError> {
+        comparison(alloc, net, arrivals)
+    }
 }
 
 /// The command `compare NET ARR`: writes what the run of the turn order counts in all, and what that under actuated control
@@ -83,9 +90,9 @@ pub fn compare_job<S: Shelf, O: Sink, E: Sink>(
     out: &mut O,
     err: &mut E,
 ) -> Status
-    ensures { Outcome (Compare net.now arr.now)
+    ensures { Outcome (compare_meaning net.now arr.now)
         (record { shelf = S.state shelf.old; out = O.state out.old; err = E.state err.old })
         (record { shelf = S.state shelf.new; out = O.state out.new; err = E.state err.new }) result }
 {
-    end(alloc, compare_files(alloc, shelf, net, arr), out, err)
+    scene_job(alloc, &CompareWork, net, arr, shelf, out, err)
 }

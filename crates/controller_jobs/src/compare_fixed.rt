@@ -2,18 +2,20 @@
 ghost use Rattle.std.specs.Prelude.{◌≡◌, IfOk};
 ghost use Rattle.arrivals.specs.Amounts.{AreArrivals, arriving_of};
 ghost use Rattle.net_simulator.specs.Shown.{all_shown};
-ghost use Rattle.command_words.specs.Calls.{CompareFixed};
-ghost use Rattle.commands.specs.{Controllers.IsComparisonWith, Controllers.fixed_timelines, Ending.Makes, Outcome.Outcome};
+ghost use Rattle.controller_jobs.specs.Controllers.{IsComparisonWith, fixed_timelines};
 ghost use Rattle.fixed_plans.specs.Rows.{IsFixedPlan};
 
 use super::compare::comparison;
 use super::fixed::fixed_run;
+use crate::kinds::PlanFile;
 use arrivals::Arrivals;
-use commands::{Made, Refusal, SceneWith, Status, end, fetch_scene_with, push_totals};
+use bounded_runs::push_totals;
+use commands::{Made, Refusal, Work};
 use fixed_plans::FixedPlan;
 use net_simulator::Totals;
-use outside_world::{Shelf, Sink};
+use outside_world::Shelf;
 use road_net::Network;
+use scene_jobs::fetch_scene_with;
 use std::alloc::{AllocError, Global};
 
 // The totals of the run under a fixed plan.
@@ -49,49 +51,29 @@ fn comparison_with(
     Ok(text)
 }
 
-// The totals of all three runs, with the network, the arrivals and the fixed plan in the files.
-fn compare_fixed_files<S: Shelf>(
-    alloc: Global,
-    shelf: &mut S,
-    net: &str,
-    arr: &str,
-    plan: &str,
-) -> Result<Made, Refusal>
-    ensures { Makes (CompareFixed net.now arr.now plan.now) (S.state shelf.old) (S.state shelf.new) result }
-{
-    let read: SceneWith<FixedPlan> = fetch_scene_with(alloc, shelf, net, arr, plan)?;
-    let text = comparison_with(
-        alloc,
-        &read.scene.network,
-        &read.scene.arrivals,
-        &read.value,
-    )?;
-    Ok(Made::Done(text))
-}
-
-/// The command `compare NET ARR PLAN`: writes what `compare NET ARR` does, and what the run under the fixed plan in the third file
+/// `compare NET ARR PLAN`: what `compare NET ARR` does, and what the run under the fixed plan in the third file
 /// counts in all. It says nothing of which makes less delay.
 ///
-/// Each status has its cause, and each refusal writes its line to `err`, as `signal` says.
-///
 /// docs/FORMATS.md, "Words".
-pub fn compare_fixed_job<S: Shelf, O: Sink, E: Sink>(
-    alloc: Global,
-    net: &str,
-    arr: &str,
-    plan: &str,
-    shelf: &mut S,
-    out: &mut O,
-    err: &mut E,
-) -> Status
-    ensures { Outcome (CompareFixed net.now arr.now plan.now)
-        (record { shelf = S.state shelf.old; out = O.state out.old; err = E.state err.old })
-        (record { shelf = S.state shelf.new; out = O.state out.new; err = E.state err.new }) result }
-{
-    end(
-        alloc,
-        compare_fixed_files(alloc, shelf, net, arr, plan),
-        out,
-        err,
-    )
+#[derive(Clone, Copy)]
+pub struct CompareFixedWork<'a> {
+    /// The file of the network.
+    pub net: &'a str,
+    /// The file of the arrivals at it.
+    pub arr: &'a str,
+    /// The file of the fixed plan.
+    pub plan: &'a str,
+}
+
+impl Work for CompareFixedWork<'_> {
+    ghost use Rattle.controller_jobs.specs.Meanings.{compare_fixed_meaning};
+
+    ghost means = { λ work. compare_fixed_meaning work.net.now work.arr.now work.plan.now };
+
+    fn make<S: Shelf>(&self, alloc: Global, shelf: &mut S) -> Result<Made, Refusal> {
+        let read = fetch_scene_with::<PlanFile, S>(alloc, shelf, self.net, self.arr, self.plan)?;
+        let scene = &read.scene;
+        let text = comparison_with(alloc, &scene.network, &scene.arrivals, &read.value)?;
+        Ok(Made::Done(text))
+    }
 }

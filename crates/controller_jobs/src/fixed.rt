@@ -3,19 +3,20 @@ ghost use Rattle.std.specs.Prelude.{◌≡◌, ◌≤◌, ℕ, IfOk};
 ghost use Rattle.arrivals.specs.Amounts.{AreArrivals, arriving_of};
 ghost use Rattle.net_parts.specs.Limits.{most_of_all};
 ghost use Rattle.audit.specs.{Audits.IsClean, Audits.IsCleanText, LineReports.line_text, LineRuns.sheet_of, LineRuns.shown_sheet, SheetTexts.HasShape};
-ghost use Rattle.command_words.specs.Calls.{Fixed};
-ghost use Rattle.commands.specs.{Controllers.IsFixedReport, Controllers.fixed_timelines, Ending.Makes, Outcome.Outcome};
+ghost use Rattle.controller_jobs.specs.Controllers.{IsFixedReport, fixed_timelines};
 ghost use Rattle.fixed_plans.specs.{FixedBounds.fixed_bounds, Rows.IsFixedPlan};
 ghost use Rattle.net_simulator.specs.{Shown.cumulative_of_lines, Sums.end_of_run, Sums.total_arrived, Worlds.line_in};
 ghost use Rattle.signal_safety.specs.Safe.{IsSafe};
 ghost use Rattle.waits.specs.Discharges.{AreWaitsWithin};
 
+use crate::kinds::PlanFile;
 use arrivals::Arrivals;
 use audit::{LineRun, line_report, run_lines};
-use commands::{Made, Refusal, SceneWith, Status, end, fetch_scene_with};
+use commands::{Made, Refusal, Work};
 use fixed_plans::{FixedPlan, fixed_lines};
-use outside_world::{Shelf, Sink};
+use outside_world::Shelf;
 use road_net::{Network, law_of_network};
+use scene_jobs::fetch_scene_with;
 use std::alloc::{AllocError, Global};
 
 /// The run of a network under a fixed plan of it, with all that it keeps. `Err`: out of memory.
@@ -69,44 +70,29 @@ fn report_fixed(
     Ok(text)
 }
 
-// The report of the run under the fixed plan in the third file, with the network and the arrivals in the first two.
-fn fixed_files<S: Shelf>(
-    alloc: Global,
-    shelf: &mut S,
-    net: &str,
-    arr: &str,
-    plan: &str,
-) -> Result<Made, Refusal>
-    ensures { Makes (Fixed net.now arr.now plan.now) (S.state shelf.old) (S.state shelf.new) result }
-{
-    let read: SceneWith<FixedPlan> = fetch_scene_with(alloc, shelf, net, arr, plan)?;
-    let text = report_fixed(
-        alloc,
-        &read.scene.network,
-        &read.scene.arrivals,
-        &read.value,
-    )?;
-    Ok(Made::Done(text))
-}
-
-/// The command `fixed NET ARR PLAN`: writes the report of the run under the fixed plan in the third file, with the network and the
+/// `fixed NET ARR PLAN`: the report of the run under the fixed plan in the third file, with the network and the
 /// arrivals in the first two. Its greens are lawful and the network is safe under them; it has no plans and no board steps.
 ///
-/// Each status has its cause, and each refusal writes its line to `err`, as `signal` says.
-///
 /// docs/FORMATS.md, "Words".
-pub fn fixed_job<S: Shelf, O: Sink, E: Sink>(
-    alloc: Global,
-    net: &str,
-    arr: &str,
-    plan: &str,
-    shelf: &mut S,
-    out: &mut O,
-    err: &mut E,
-) -> Status
-    ensures { Outcome (Fixed net.now arr.now plan.now)
-        (record { shelf = S.state shelf.old; out = O.state out.old; err = E.state err.old })
-        (record { shelf = S.state shelf.new; out = O.state out.new; err = E.state err.new }) result }
-{
-    end(alloc, fixed_files(alloc, shelf, net, arr, plan), out, err)
+#[derive(Clone, Copy)]
+pub struct FixedWork<'a> {
+    /// The file of the network.
+    pub net: &'a str,
+    /// The file of the arrivals at it.
+    pub arr: &'a str,
+    /// The file of the fixed plan.
+    pub plan: &'a str,
+}
+
+impl Work for FixedWork<'_> {
+    ghost use Rattle.controller_jobs.specs.Meanings.{fixed_meaning};
+
+    ghost means = { λ work. fixed_meaning work.net.now work.arr.now work.plan.now };
+
+    fn make<S: Shelf>(&self, alloc: Global, shelf: &mut S) -> Result<Made, Refusal> {
+        let read = fetch_scene_with::<PlanFile, S>(alloc, shelf, self.net, self.arr, self.plan)?;
+        let scene = &read.scene;
+        let text = report_fixed(alloc, &scene.network, &scene.arrivals, &read.value)?;
+        Ok(Made::Done(text))
+    }
 }

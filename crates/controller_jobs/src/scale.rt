@@ -3,19 +3,20 @@ ghost use Rattle.std.specs.Prelude.{◌≡◌, ◌+◌, ◌-◌, ◌*◌, ◌/�
 ghost use Rattle.std.specs.List.{join_with_byte};
 ghost use Rattle.arrivals.specs.{Amounts.AreArrivals, Amounts.arriving_of, Scaling.IsScaled, Scaling.greatest_factor, Scaling.scaled_whole};
 ghost use Rattle.net_parts.specs.Limits.{most_of_all};
-ghost use Rattle.command_words.specs.{Calls.Scale, Factors.AreFactors};
-ghost use Rattle.commands.specs.{Controllers.BringTooMuch, Controllers.IsScaleTable, Controllers.factors, Ending.Makes, Outcome.Outcome, Summary.scale_line, Summary.totals_words};
-ghost use Rattle.controller_jobs.specs.Factors.{GainsScaleLine, RefusesFactor, RefusesFactors};
+ghost use Rattle.bounded_runs.specs.Totals.{totals_words};
+ghost use Rattle.command_words.specs.Factors.{AreFactors};
+ghost use Rattle.commands.specs.{Ending.Makes, Outcome.Outcome};
+ghost use Rattle.controller_jobs.specs.{Controllers.BringTooMuch, Controllers.IsScaleTable, Controllers.factors, Controllers.scale_line, Factors.GainsScaleLine, Factors.RefusesFactor, Factors.RefusesFactors, Meanings.scale_meaning};
 
 use super::compare::{actuated_totals, planned_totals};
 use arrivals::{Arrivals, ScaleFault, scale};
-use commands::{Made, Named, Refusal, Status, end, fetch_scene};
+use commands::{Made, Named, Refusal, Status, end};
 use net_simulator::Totals;
 use outside_world::{Shelf, Sink};
 use road_net::Network;
+use scene_jobs::fetch_scene;
 use std::alloc::{AllocError, Global};
-use text_faults::push_one;
-use text_lines::push_number;
+use text_lines::{push_number, push_one};
 
 /// Factors in thousandths: from the first on, a step apart, up to the last.
 #[derive(Clone, Copy)]
@@ -144,7 +145,7 @@ fn scale_files<S: Shelf>(
     range: &FactorRange,
 ) -> Result<Made, Refusal>
     requires { AreFactors range.now.first range.now.last range.now.step }
-    ensures { Makes (Scale net.now arr.now range.now.first range.now.last range.now.step)
+    ensures { Makes (scale_meaning net.now arr.now range.now.first range.now.last range.now.step)
         (S.state shelf.old) (S.state shelf.new) result }
 {
     let scene = fetch_scene(alloc, shelf, net, arr)?;
@@ -171,7 +172,7 @@ pub fn scale_job<S: Shelf, O: Sink, E: Sink>(
     err: &mut E,
 ) -> Status
     requires { AreFactors first last step }
-    ensures { Outcome (Scale net.now arr.now first last step)
+    ensures { Outcome (scale_meaning net.now arr.now first last step)
         (record { shelf = S.state shelf.old; out = O.state out.old; err = E.state err.old })
         (record { shelf = S.state shelf.new; out = O.state out.new; err = E.state err.new }) result }
 {

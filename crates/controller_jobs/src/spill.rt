@@ -1,17 +1,21 @@
 //! The command `spill NET ARR STORE`.
 ghost use Rattle.std.specs.Prelude.{◌≡◌, ◌<◌, ◌++◌, IfOk, OnOk, length};
 ghost use Rattle.arrivals.specs.Amounts.{AreArrivals, arriving_of};
-ghost use Rattle.command_words.specs.Calls.{Spill};
-ghost use Rattle.commands.specs.{Ending.Makes, Headline.IsRunOf, Outcome.Outcome, Storages.IsSpillTable, Storages.spilled_under, Summary.spilled_line};
+ghost use Rattle.bounded_runs.specs.Runs.{IsRunOf};
+ghost use Rattle.commands.specs.Outcome.{Outcome};
+ghost use Rattle.controller_jobs.specs.{Meanings.spill_meaning, Storages.IsSpillTable, Storages.spilled_line, Storages.spilled_under};
 ghost use Rattle.histories.specs.Histories.{turn_order};
 ghost use Rattle.net_simulator.specs.Worlds.{line_in, signs_by};
 ghost use Rattle.runs.specs.declared.records.RunRecord.{RunRecord};
 
+use crate::kinds::StoreFile;
 use arrivals::Arrivals;
-use commands::{Made, Refusal, SceneWith, Status, end, fetch_scene_with, turn_totals};
+use bounded_runs::turn_totals;
+use commands::{Made, Refusal, Status, Work, job};
 use net_simulator::Lines;
 use outside_world::{Shelf, Sink};
 use road_net::Network;
+use scene_jobs::fetch_scene_with;
 use spillback_control::spill_actuated;
 use spillback_world::{SpillTotals, Store, spill_lines};
 use std::alloc::{AllocError, Global};
@@ -75,19 +79,25 @@ fn spill_table(
     Ok(text)
 }
 
-// The totals of both runs, with the network, the arrivals and the store in the files.
-fn spill_files<S: Shelf>(
-    alloc: Global,
-    shelf: &mut S,
-    net: &str,
-    arr: &str,
-    store: &str,
-) -> Result<Made, Refusal>
-    ensures { Makes (Spill net.now arr.now store.now) (S.state shelf.old) (S.state shelf.new) result }
-{
-    let all: SceneWith<Store> = fetch_scene_with(alloc, shelf, net, arr, store)?;
-    let text = spill_table(alloc, &all.scene.network, &all.scene.arrivals, &all.value)?;
-    Ok(Made::Done(text))
+/// `spill NET ARR STORE`.
+#[derive(Clone, Copy)]
+struct SpillWork<'a> {
+    net: &'a str,
+    arr: &'a str,
+    store: &'a str,
+}
+
+impl Work for SpillWork<'_> {
+    ghost use Rattle.controller_jobs.specs.Meanings.{spill_meaning};
+
+    ghost means = { λ work. spill_meaning work.net.now work.arr.now work.store.now };
+
+    fn make<S: Shelf>(&self, alloc: Global, shelf: &mut S) -> Result<Made, Refusal> {
+        let read = fetch_scene_with::<StoreFile, S>(alloc, shelf, self.net, self.arr, self.store)?;
+        let scene = &read.scene;
+        let text = spill_table(alloc, &scene.network, &scene.arrivals, &read.value)?;
+        Ok(Made::Done(text))
+    }
 }
 
 /// The command `spill NET ARR STORE`: writes what is counted in the world whose links hold what the store says, under the last
@@ -106,9 +116,9 @@ pub fn spill_job<S: Shelf, O: Sink, E: Sink>(
     out: &mut O,
     err: &mut E,
 ) -> Status
-    ensures { Outcome (Spill net.now arr.now store.now)
+    ensures { Outcome (spill_meaning net.now arr.now store.now)
         (record { shelf = S.state shelf.old; out = O.state out.old; err = E.state err.old })
         (record { shelf = S.state shelf.new; out = O.state out.new; err = E.state err.new }) result }
 {
-    end(alloc, spill_files(alloc, shelf, net, arr, store), out, err)
+    job(alloc, &SpillWork { net, arr, store }, shelf, out, err)
 }

@@ -2,16 +2,17 @@
 ghost use Rattle.std.specs.Prelude.{◌≡◌, IfOk, length};
 ghost use Rattle.arrivals.specs.Amounts.{AreArrivals, arriving_of};
 ghost use Rattle.audit.specs.{LineReports.cut_at, LineReports.line_text, SheetTexts.HasShape, SheetTexts.IsSheetText};
-ghost use Rattle.command_words.specs.Calls.{SpillActuated};
-ghost use Rattle.commands.specs.{Ending.Makes, Outcome.Outcome, Storages.IsSpillReport, Storages.told_totals};
+ghost use Rattle.controller_jobs.specs.Storages.{IsSpillReport, told_totals};
 ghost use Rattle.net_simulator.specs.Sums.{end_of_run};
 
+use crate::kinds::StoreFile;
 use arrivals::Arrivals;
 use audit::line_report;
-use commands::{Made, Refusal, SceneWith, Status, end, fetch_scene_with};
+use commands::{Made, Refusal, Work};
 use net_simulator::{Lines, LinkTotals, Totals};
-use outside_world::{Shelf, Sink};
+use outside_world::Shelf;
 use road_net::{Network, law_of_network};
+use scene_jobs::fetch_scene_with;
 use spillback_control::{SpillRun, spill_run};
 use spillback_world::{Store, spill_links};
 use std::alloc::{AllocError, Global};
@@ -63,46 +64,31 @@ fn report_spill(
     Ok(text)
 }
 
-// The report of the run under actuated control, with the network, the arrivals and the store in the files.
-fn spill_report_files<S: Shelf>(
-    alloc: Global,
-    shelf: &mut S,
-    net: &str,
-    arr: &str,
-    store: &str,
-) -> Result<Made, Refusal>
-    ensures { Makes (SpillActuated net.now arr.now store.now) (S.state shelf.old) (S.state shelf.new) result }
-{
-    let all: SceneWith<Store> = fetch_scene_with(alloc, shelf, net, arr, store)?;
-    let text = report_spill(alloc, &all.scene.network, &all.scene.arrivals, &all.value)?;
-    Ok(Made::Done(text))
-}
-
-/// The command `spill NET ARR STORE actuated`: writes the report of the run under actuated control which senses the world whose
+/// `spill NET ARR STORE actuated`: the report of the run under actuated control which senses the world whose
 /// links hold what the store says, with the network, the arrivals and the store in the files. Its greens are lawful and the
 /// network is safe under them; its totals are those of that world. It is read as the sheet of these. It has no plans and no board
 /// steps.
 ///
-/// Each status has its cause, and each refusal writes its line to `err`, as `signal` says.
-///
 /// docs/FORMATS.md, "Words".
-pub fn spill_report_job<S: Shelf, O: Sink, E: Sink>(
-    alloc: Global,
-    net: &str,
-    arr: &str,
-    store: &str,
-    shelf: &mut S,
-    out: &mut O,
-    err: &mut E,
-) -> Status
-    ensures { Outcome (SpillActuated net.now arr.now store.now)
-        (record { shelf = S.state shelf.old; out = O.state out.old; err = E.state err.old })
-        (record { shelf = S.state shelf.new; out = O.state out.new; err = E.state err.new }) result }
-{
-    end(
-        alloc,
-        spill_report_files(alloc, shelf, net, arr, store),
-        out,
-        err,
-    )
+#[derive(Clone, Copy)]
+pub struct SpillActuatedWork<'a> {
+    /// The file of the network.
+    pub net: &'a str,
+    /// The file of the arrivals at it.
+    pub arr: &'a str,
+    /// The file of the store.
+    pub store: &'a str,
+}
+
+impl Work for SpillActuatedWork<'_> {
+    ghost use Rattle.controller_jobs.specs.Meanings.{spill_actuated_meaning};
+
+    ghost means = { λ work. spill_actuated_meaning work.net.now work.arr.now work.store.now };
+
+    fn make<S: Shelf>(&self, alloc: Global, shelf: &mut S) -> Result<Made, Refusal> {
+        let read = fetch_scene_with::<StoreFile, S>(alloc, shelf, self.net, self.arr, self.store)?;
+        let scene = &read.scene;
+        let text = report_spill(alloc, &scene.network, &scene.arrivals, &read.value)?;
+        Ok(Made::Done(text))
+    }
 }

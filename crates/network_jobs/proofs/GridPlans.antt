@@ -15,7 +15,7 @@ use Rattle.runs.specs.declared.records.RunTotals.{RunTotals}
 use Rattle.scenario_gen.specs.Drafts.{grid_draft, node}
 use Rattle.scenario_gen.specs.Grids.{AreRounds, IsGrid}
 use Rattle.scenario_gen.specs.Layout.{IsSide, nodes}
-use Rattle.commands.specs.Headline.{AreTurnTotals}
+use Rattle.bounded_runs.specs.Runs.{AreTurnTotals}
 
 -- so many nodes has a grid
 nodes-of : (side rounds : ℕ) → length (node_names (grid_draft side rounds)) ≡ side * side

@@ -3,7 +3,8 @@ use Rattle.std.proofs.Common.{◌≡◌, ℕ, ◌≤◌, List, sym, subst}
 use Rattle.arrivals.specs.Amounts.{Amounts, AreArrivals, arriving_of}
 use Rattle.net_parts.specs.Limits.{most_of_all}
 use Rattle.audit.specs.Audits.{IsCleanText}
-use Rattle.commands.specs.Headline.{Headline, IsRunOf}
+use Rattle.bounded_runs.specs.Runs.{IsRunOf}
+use Rattle.network_jobs.specs.Headline.{Headline}
 use Rattle.delay_report.specs.Reports.{report_text}
 use Rattle.net_parts.specs.Numbers.{Net}
 use Rattle.net_simulator.specs.Sums.{total_arrived}

@@ -19,7 +19,7 @@ use Rattle.schedule_meaning.proofs.TextLaws.{has-text}
 use Rattle.schedule_meaning.specs.declared.planners.Answer.{Answer}
 use Rattle.schedule_meaning.specs.declared.planners.Answer.TheVariants.{Plan, NoPlan}
 use Rattle.commands.specs.Limits.{most_bytes}
-use Rattle.commands.specs.Kinds.{InstanceText}
+use Rattle.planner_jobs.specs.Kinds.{InstanceText}
 use Rattle.commands.specs.Texts.{Reads}
 use Rattle.net_simulator.specs.Sums.{end_of_run, link_totals}
 use Rattle.net_simulator.specs.declared.totals.LinkTotals.{LinkTotals}
@@ -28,8 +28,9 @@ use Rattle.runs.specs.Tallies.{none_count, planned_delays}
 use Rattle.runs.specs.declared.plan_tallies.PlanTally.{PlanTally}
 use Rattle.runs.specs.declared.records.RunTotals.{RunTotals}
 use Rattle.world_records.specs.Records.{counted_text}
-use Rattle.commands.specs.Headline.{AgreesWith, AreTurnTotals, IsGridSummary, IsPlannedText, IsRunOf, IsTotalsText}
-use Rattle.commands.specs.Summary.{summary_lines}
+use Rattle.bounded_runs.specs.Runs.{AreTurnTotals, IsRunOf}
+use Rattle.network_jobs.specs.Headline.{AgreesWith, IsGridSummary, IsPlannedText, IsTotalsText}
+use Rattle.network_jobs.specs.Summary.{summary_lines}
 
 -- two answers of an instance than which no sequence has less delay agree
 agree : (p : Problem) (a b : Answer) → IsLeast p a → IsLeast p b → AgreesWith a b

@@ -6,7 +6,7 @@ use Rattle.histories.specs.Histories.{IsLawful}
 use Rattle.net_parts.specs.Numbers.{Net}
 use Rattle.runs.specs.Runs.{IsRun}
 use Rattle.runs.specs.declared.records.RunRecord.{RunRecord}
-use Rattle.commands.specs.Headline.{Headline}
+use Rattle.network_jobs.specs.Headline.{Headline}
 
 -- Below, a history has one run, its report is a text of it, and a text is a text of one history.
 module _ (net : Net)

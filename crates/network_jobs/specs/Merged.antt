@@ -5,7 +5,7 @@ use Rattle.histories.specs.Histories.{IsLawful}
 use Rattle.histories.specs.Merges.{IsMerge}
 use Rattle.net_parts.specs.Numbers.{Net}
 use Rattle.runs.specs.declared.records.RunRecord.{RunRecord}
-use Rattle.commands.specs.Headline.{IsRunOf}
+use Rattle.bounded_runs.specs.Runs.{IsRunOf}
 
 -- these logs have a lawful merge, whichever it is
 abbrev pub HaveLawfulMerge : Net → List Log → Type 0

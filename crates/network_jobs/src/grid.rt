@@ -2,11 +2,12 @@
 ghost use Rattle.std.specs.Prelude.{IfOk};
 ghost use Rattle.outside_world.specs.Shelf.{ShelfState};
 ghost use Rattle.scenario_gen.specs.{Grids.AreRounds, Layout.IsSide};
-ghost use Rattle.command_words.specs.Calls.{Grid};
-ghost use Rattle.commands.specs.{Ending.Makes, Headline.IsGridSummary, Outcome.Outcome};
+ghost use Rattle.commands.specs.{Ending.Makes, Outcome.Outcome};
+ghost use Rattle.network_jobs.specs.{Headline.IsGridSummary, Meanings.grid_meaning};
 
 use super::summary::summary;
-use commands::{Made, Refusal, Status, end, turn_totals};
+use bounded_runs::turn_totals;
+use commands::{Made, Refusal, Status, end};
 use outside_world::Sink;
 use scenario_gen::grid;
 use std::alloc::{AllocError, Global};
@@ -31,7 +32,7 @@ fn summary_of_grid(
 fn make_summary(alloc: Global, number: u64, side: u32, rounds: u32) -> Result<Made, Refusal>
     requires side { IsSide side }
     requires rounds { AreRounds rounds }
-    ensures { (shelf : ShelfState) → Makes (Grid number side rounds) shelf shelf result }
+    ensures { (shelf : ShelfState) → Makes (grid_meaning number side rounds) shelf shelf result }
 {
     let text = summary_of_grid(alloc, number, side, rounds)?;
     Ok(Made::Done(text))
@@ -53,7 +54,7 @@ pub fn grid_job<O: Sink, E: Sink>(
 ) -> Status
     requires side { IsSide side }
     requires rounds { AreRounds rounds }
-    ensures { (shelf : ShelfState) → Outcome (Grid number side rounds)
+    ensures { (shelf : ShelfState) → Outcome (grid_meaning number side rounds)
         (record { shelf = shelf; out = O.state out.old; err = E.state err.old })
         (record { shelf = shelf; out = O.state out.new; err = E.state err.new }) result }
 {

@@ -2,10 +2,10 @@
 ghost use Rattle.std.specs.Prelude.{IfOk};
 ghost use Rattle.arrivals.specs.Amounts.{AreArrivals, arriving_of};
 ghost use Rattle.histories.specs.Histories.{IsLawful};
-ghost use Rattle.commands.specs.Headline.{Headline};
+ghost use Rattle.network_jobs.specs.Headline.{Headline};
 
 use arrivals::Arrivals;
-use commands::kept_run;
+use bounded_runs::kept_run;
 use delay_report::{law_of_reports, render};
 use histories::History;
 use road_net::{Network, law_of_network};

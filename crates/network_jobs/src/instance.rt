@@ -3,31 +3,33 @@ ghost use Rattle.std.specs.Prelude.{◌≡◌, ℕ, ◌<◌, List, IfErr, IfOk, 
 ghost use Rattle.arrivals.specs.Amounts.{AreArrivals, arriving_of};
 ghost use Rattle.histories.specs.Histories.{IsLawful};
 ghost use Rattle.net_parts.specs.Numbers.{number_of};
-ghost use Rattle.command_words.specs.Calls.{Instance};
-ghost use Rattle.commands.specs.{Ending.Makes, Headline.IsPlannedText, Outcome.Outcome};
-ghost use Rattle.network_jobs.specs.{Args.call_with, Missing.Misses};
+ghost use Rattle.commands.specs.Outcome.{Outcome};
+ghost use Rattle.network_jobs.specs.{Headline.IsPlannedText, Meanings.instance_meaning, Missing.IsWithoutPlan};
 
+use crate::kinds::HistoryFile;
 use arrivals::Arrivals;
-use commands::{Made, Named, Refusal, SceneWith, Status, end, fetch_scene_with, kept_run};
+use bounded_runs::kept_run;
+use commands::{Made, Named, Refusal, Status, Work, job};
 use histories::History;
 use outside_world::{Shelf, Sink};
 use road_net::Network;
+use scene_jobs::fetch_scene_with;
 use schedule_meaning::write_instance;
 use std::alloc::{AllocError, Global};
 
-/// The arguments of `instance`.
+/// `instance` with its words.
 #[derive(Clone, Copy)]
-pub(crate) struct InstanceArgs<'a> {
+struct InstanceWork<'a> {
     /// The file of the network.
-    pub net: &'a str,
+    net: &'a str,
     /// The file of the arrivals at it.
-    pub arr: &'a str,
+    arr: &'a str,
     /// The file of a history of it.
-    pub hist: &'a str,
+    hist: &'a str,
     /// The name of the node that planned.
-    pub node: &'a str,
+    node: &'a str,
     /// The round in which it did, from 0.
-    pub round: u32,
+    round: u32,
 }
 
 // The number of a node, in a network that has this round too.
@@ -35,7 +37,7 @@ fn node_in_round(net: &Network, node: &str, round: u32) -> Result<u32, Refusal>
     ensures ok { IfOk result (λ number. number_of net.now.node_names node.now ≡ Some number) }
     ensures below { IfOk result (λ number. number < length net.now.node_names) }
     ensures round { OnOk result (round < net.now.run.rounds) }
-    ensures refused { IfErr result (Misses net.now node.now round) }
+    ensures refused { IfErr result (IsWithoutPlan net.now node.now round) }
 {
     let Some(number) = net.find_node(node) else {
         return Err(Refusal::Missing { what: Named::Node });
@@ -81,32 +83,32 @@ fn find_planned_text(
     ensures planned { IfOk result (λ text. IsPlannedText net.now
         (arriving_of arrivals.now) h.now node.now round text.items) }
     ensures exists { OnOk result (IsSome (number_of net.now.node_names node.now) × (round < net.now.run.rounds)) }
-    ensures refused { IfErr result (Misses net.now node.now round) }
+    ensures refused { IfErr result (IsWithoutPlan net.now node.now round) }
 {
     let number = node_in_round(net, node, round)?;
     let text = planned_text(alloc, net, arrivals, h, number, round)?;
     Ok(text)
 }
 
-// The text of the instance that a node planned in a round of the run of the history in the third file, with the network and the
-// arrivals in the first two.
-fn make_instance<S: Shelf>(
-    alloc: Global,
-    shelf: &mut S,
-    args: &InstanceArgs<'_>,
-) -> Result<Made, Refusal>
-    ensures { Makes (call_with args.now) (S.state shelf.old) (S.state shelf.new) result }
-{
-    let read: SceneWith<History> = fetch_scene_with(alloc, shelf, args.net, args.arr, args.hist)?;
-    let text = find_planned_text(
-        alloc,
-        &read.scene.network,
-        &read.scene.arrivals,
-        &read.value,
-        args.node,
-        args.round,
-    )?;
-    Ok(Made::Done(text))
+impl Work for InstanceWork<'_> {
+    ghost use Rattle.network_jobs.specs.Meanings.{instance_meaning};
+
+    ghost means = { λ work. instance_meaning work.net.now work.arr.now work.hist.now work.node.now work.round };
+
+    // The text of the instance that a node planned in a round of the run of the history in the third file, with the network and the
+    // arrivals in the first two.
+    fn make<S: Shelf>(&self, alloc: Global, shelf: &mut S) -> Result<Made, Refusal> {
+        let read = fetch_scene_with::<HistoryFile, S>(alloc, shelf, self.net, self.arr, self.hist)?;
+        let text = find_planned_text(
+            alloc,
+            &read.scene.network,
+            &read.scene.arrivals,
+            &read.value,
+            self.node,
+            self.round,
+        )?;
+        Ok(Made::Done(text))
+    }
 }
 
 /// The command `instance NET ARR HIST NODE ROUND`: writes the instance that a node planned in a round of the run of the history
@@ -127,17 +129,16 @@ pub fn instance_job<S: Shelf, O: Sink, E: Sink>(
     out: &mut O,
     err: &mut E,
 ) -> Status
-    ensures { Outcome (Instance net.now arr.now hist.now node.now round)
+    ensures { Outcome (instance_meaning net.now arr.now hist.now node.now round)
         (record { shelf = S.state shelf.old; out = O.state out.old; err = E.state err.old })
         (record { shelf = S.state shelf.new; out = O.state out.new; err = E.state err.new }) result }
 {
-    let args = InstanceArgs {
+    let work = InstanceWork {
         net,
         arr,
         hist,
         node,
         round,
     };
-    let made = make_instance(alloc, shelf, &args);
-    end(alloc, made, out, err)
+    job(alloc, &work, shelf, out, err)
 }

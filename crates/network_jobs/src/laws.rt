@@ -2,9 +2,10 @@
 ghost use Rattle.std.specs.Prelude.{◌≡◌, ℕ, List};
 ghost use Rattle.dp_certificate.specs.Certificates.{Claim};
 ghost use Rattle.schedule_meaning.specs.Instances.{Problem};
-ghost use Rattle.commands.specs.{Commands.IsAcceptedText, Commands.IsTextOf, Commands.texts_of, Headline.AgreesWith, Kinds.InstanceText, Texts.AllSaid, Texts.Reads};
+ghost use Rattle.commands.specs.Texts.{AllSaid, Reads};
 ghost use Rattle.delay_report.specs.Texts.{IsHistoryText};
-ghost use Rattle.command_words.specs.Calls.{Certify, CertifyBound, Instance, Net, Replay, Turns};
+ghost use Rattle.planner_jobs.specs.{Kinds.InstanceText, Meanings.IsAcceptedText, Meanings.certify_bound_meaning, Meanings.certify_meaning};
+ghost use Rattle.network_jobs.specs.{Headline.AgreesWith, Meanings.instance_meaning, Meanings.net_meaning, Meanings.replay_meaning, Meanings.turns_meaning};
 
 use delay_report::law_of_reports;
 use road_net::Network;
@@ -16,14 +17,14 @@ use runs::law_of_one_run;
 /// docs/RULES.md, "Run".
 pub fn law_of_instances()
     ensures whole { (net arr hist node file : List ℕ) (round : ℕ)
-        (said : AllSaid (texts_of (Instance net arr hist node round))) (bytes certificate : List ℕ) (p : Problem)
-        → (text : IsTextOf (Instance net arr hist node round) said bytes) → Reads InstanceText bytes p
-        → IsTextOf (Certify file) (p, tt) certificate
+        (said : AllSaid (instance_meaning net arr hist node round).texts) (bytes certificate : List ℕ) (p : Problem)
+        → (text : (instance_meaning net arr hist node round).writes said bytes) → Reads InstanceText bytes p
+        → (certify_meaning file).writes (p, tt) certificate
         → (c : Claim) × IsAcceptedText certificate c × AgreesWith c.answer text.plan.answer }
     ensures bounded { (net arr hist node file : List ℕ) (round : ℕ)
-        (said : AllSaid (texts_of (Instance net arr hist node round))) (bytes certificate : List ℕ) (p : Problem)
-        → (text : IsTextOf (Instance net arr hist node round) said bytes) → Reads InstanceText bytes p
-        → IsTextOf (CertifyBound file) (p, tt) certificate
+        (said : AllSaid (instance_meaning net arr hist node round).texts) (bytes certificate : List ℕ) (p : Problem)
+        → (text : (instance_meaning net arr hist node round).writes said bytes) → Reads InstanceText bytes p
+        → (certify_bound_meaning file).writes (p, tt) certificate
         → (c : Claim) × IsAcceptedText certificate c × AgreesWith c.answer text.plan.answer }
 {}
 
@@ -33,15 +34,15 @@ pub fn law_of_instances()
 /// docs/FORMATS.md, "Words".
 pub fn law_of_replays(net: &Network)
     ensures net { (file arr hist : List ℕ) (arriving : ℕ → ℕ → ℕ) (history bytes again : List ℕ)
-        → IsTextOf (Net file arr) (net.now, (arriving, tt)) bytes → IsHistoryText net.now bytes history
-        → IsTextOf (Replay file arr hist) (net.now, (arriving, (history, tt))) again → again ≡ bytes }
+        → (net_meaning file arr).writes (net.now, (arriving, tt)) bytes → IsHistoryText net.now bytes history
+        → (replay_meaning file arr hist).writes (net.now, (arriving, (history, tt))) again → again ≡ bytes }
     ensures turns { (file arr hist : List ℕ) (arriving : ℕ → ℕ → ℕ) (history bytes again : List ℕ)
-        → IsTextOf (Turns file arr) (net.now, (arriving, tt)) bytes → IsHistoryText net.now bytes history
-        → IsTextOf (Replay file arr hist) (net.now, (arriving, (history, tt))) again → again ≡ bytes }
+        → (turns_meaning file arr).writes (net.now, (arriving, tt)) bytes → IsHistoryText net.now bytes history
+        → (replay_meaning file arr hist).writes (net.now, (arriving, (history, tt))) again → again ≡ bytes }
     ensures replay { (file arr hist : List ℕ) (arriving : ℕ → ℕ → ℕ) (given history bytes again : List ℕ)
-        → IsTextOf (Replay file arr hist) (net.now, (arriving, (given, tt))) bytes
+        → (replay_meaning file arr hist).writes (net.now, (arriving, (given, tt))) bytes
         → IsHistoryText net.now bytes history
-        → IsTextOf (Replay file arr hist) (net.now, (arriving, (history, tt))) again → again ≡ bytes }
+        → (replay_meaning file arr hist).writes (net.now, (arriving, (history, tt))) again → again ≡ bytes }
 {
     law_of_one_run(net);
     law_of_reports(net);

@@ -1,11 +1,12 @@
 //! The command `net NET ARR`.
-ghost use Rattle.command_words.specs.Calls.{Net};
 ghost use Rattle.commands.specs.{Ending.Makes, Outcome.Outcome};
+ghost use Rattle.network_jobs.specs.Meanings.{net_meaning};
 
 use super::rounds::report;
 use board_model::Gate;
-use commands::{Made, Refusal, Status, end, fetch_scene};
+use commands::{Made, Refusal, Status, end};
 use outside_world::{Shelf, Sink};
+use scene_jobs::fetch_scene;
 use std::alloc::Global;
 use std::sync::Wait;
 use std::thread::Threads;
@@ -19,7 +20,7 @@ fn make_report<R: Threads + Wait + Sync, S: Shelf, G: Gate + Sync>(
     arr: &str,
     gate: &G,
 ) -> Result<Made, Refusal>
-    ensures { Makes (Net net.now arr.now) (S.state shelf.old) (S.state shelf.new) result }
+    ensures { Makes (net_meaning net.now arr.now) (S.state shelf.old) (S.state shelf.new) result }
 {
     let scene = fetch_scene(alloc, shelf, net, arr)?;
     let text = report(rt, alloc, &scene.network, &scene.arrivals, gate)?;
@@ -45,7 +46,7 @@ pub fn net_job<R: Threads + Wait + Sync, S: Shelf, O: Sink, E: Sink, G: Gate + S
     err: &mut E,
     gate: &G,
 ) -> Status
-    ensures { Outcome (Net net.now arr.now)
+    ensures { Outcome (net_meaning net.now arr.now)
         (record { shelf = S.state shelf.old; out = O.state out.old; err = E.state err.old })
         (record { shelf = S.state shelf.new; out = O.state out.new; err = E.state err.new }) result }
 {

@@ -1,31 +1,33 @@
 //! The command `replay NET ARR HIST`.
-ghost use Rattle.command_words.specs.Calls.{Replay};
-ghost use Rattle.commands.specs.{Ending.Makes, Outcome.Outcome};
+ghost use Rattle.commands.specs.Outcome.{Outcome};
+ghost use Rattle.network_jobs.specs.Meanings.{replay_meaning};
 
-use super::history_runs::report;
-use commands::{Made, Refusal, SceneWith, Status, end, fetch_scene_with};
-use histories::History;
+use crate::history_runs::report;
+use crate::kinds::HistoryFile;
+use commands::{Made, Refusal, Status, Work, job};
 use outside_world::{Shelf, Sink};
+use scene_jobs::fetch_scene_with;
 use std::alloc::Global;
 
-// The report of the run of the history in the third file, with the network and the arrivals in the first two.
-fn make_report<S: Shelf>(
-    alloc: Global,
-    shelf: &mut S,
-    net: &str,
-    arr: &str,
-    hist: &str,
-) -> Result<Made, Refusal>
-    ensures { Makes (Replay net.now arr.now hist.now) (S.state shelf.old) (S.state shelf.new) result }
-{
-    let read: SceneWith<History> = fetch_scene_with(alloc, shelf, net, arr, hist)?;
-    let text = report(
-        alloc,
-        &read.scene.network,
-        &read.scene.arrivals,
-        &read.value,
-    )?;
-    Ok(Made::Done(text))
+/// `replay`.
+#[derive(Clone, Copy)]
+struct ReplayWork<'a> {
+    net: &'a str,
+    arr: &'a str,
+    hist: &'a str,
+}
+
+impl Work for ReplayWork<'_> {
+    ghost use Rattle.network_jobs.specs.Meanings.{replay_meaning};
+
+    ghost means = { λ work. replay_meaning work.net.now work.arr.now work.hist.now };
+
+    fn make<S: Shelf>(&self, alloc: Global, shelf: &mut S) -> Result<Made, Refusal> {
+        let read = fetch_scene_with::<HistoryFile, S>(alloc, shelf, self.net, self.arr, self.hist)?;
+        let scene = &read.scene;
+        let text = report(alloc, &scene.network, &scene.arrivals, &read.value)?;
+        Ok(Made::Done(text))
+    }
 }
 
 /// The command `replay NET ARR HIST`: writes the report of the run of the history in the third file, with the network and the
@@ -43,9 +45,9 @@ pub fn replay_job<S: Shelf, O: Sink, E: Sink>(
     out: &mut O,
     err: &mut E,
 ) -> Status
-    ensures { Outcome (Replay net.now arr.now hist.now)
+    ensures { Outcome (replay_meaning net.now arr.now hist.now)
         (record { shelf = S.state shelf.old; out = O.state out.old; err = E.state err.old })
         (record { shelf = S.state shelf.new; out = O.state out.new; err = E.state err.new }) result }
 {
-    end(alloc, make_report(alloc, shelf, net, arr, hist), out, err)
+    job(alloc, &ReplayWork { net, arr, hist }, shelf, out, err)
 }

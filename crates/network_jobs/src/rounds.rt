@@ -8,8 +8,7 @@ ghost use Rattle.runs.specs.Complete.{IsComplete};
 ghost use Rattle.node_rounds.specs.Calls.{HaveCallsLeft, IsRunOfCalls, MergeToLawful};
 ghost use Rattle.net_threads.specs.Ends.{AreEndsOf};
 ghost use Rattle.snap_boards.specs.Boards.{shared_of};
-ghost use Rattle.commands.specs.Headline.{ToldHeadline};
-ghost use Rattle.network_jobs.specs.Merged.{HaveLawfulMerge, IsRunOfMerge, IsTextOfMerge};
+ghost use Rattle.network_jobs.specs.{Headline.ToldHeadline, Merged.HaveLawfulMerge, Merged.IsRunOfMerge, Merged.IsTextOfMerge};
 
 use arrivals::Arrivals;
 use board_model::{BoardLog, Gate};

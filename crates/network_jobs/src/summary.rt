@@ -1,9 +1,9 @@
 //! The summary of a run.
 ghost use Rattle.std.specs.Prelude.{◌≡◌, ◌≤◌, IfOk};
-ghost use Rattle.commands.specs.Summary.{summary_lines};
+ghost use Rattle.network_jobs.specs.Summary.{summary_lines};
 ghost use Rattle.runs.specs.Tallies.{IsTally};
 
-use commands::push_totals;
+use bounded_runs::push_totals;
 use net_simulator::Totals;
 use runs::PlanTally;
 use std::alloc::{AllocError, Global};

@@ -1,40 +1,36 @@
 //! The command `turns NET ARR`.
-ghost use Rattle.std.specs.Prelude.{IfOk};
-ghost use Rattle.arrivals.specs.Amounts.{AreArrivals, arriving_of};
-ghost use Rattle.histories.specs.Histories as histories;
-ghost use Rattle.command_words.specs.Calls.{Turns};
-ghost use Rattle.commands.specs.{Ending.Makes, Headline.Headline, Outcome.Outcome};
+ghost use Rattle.commands.specs.Outcome.{Outcome};
+ghost use Rattle.network_jobs.specs.Meanings.{turns_meaning};
 
-use super::history_runs::report;
+use crate::history_runs::report;
 use arrivals::Arrivals;
-use commands::{Made, Refusal, Status, end, fetch_scene};
+use commands::Status;
 use histories::turn_order;
 use outside_world::{Shelf, Sink};
 use road_net::Network;
+use scene_jobs::{SceneWork, scene_job};
 use std::alloc::{AllocError, Global};
 
-// The report of the run of the turn order.
-fn report_of_turns(alloc: Global, net: &Network, arrivals: &Arrivals) -> Result<Vec<u8>, AllocError>
-    requires { AreArrivals net.now arrivals.now }
-    ensures { IfOk result (λ text.
-        Headline net.now (arriving_of arrivals.now) (histories.turn_order net.now) text.items) }
-{
-    let history = turn_order(alloc, net)?;
-    report(alloc, net, arrivals, &history)
-}
+/// `turns`.
+#[derive(Debug, Clone, Copy, PartialEq, Eq)]
+struct TurnsWork;
 
-// The report of the run of the turn order, with the network and the arrivals in the files.
-fn make_report<S: Shelf>(
-    alloc: Global,
-    shelf: &mut S,
-    net: &str,
-    arr: &str,
-) -> Result<Made, Refusal>
-    ensures { Makes (Turns net.now arr.now) (S.state shelf.old) (S.state shelf.new) result }
-{
-    let scene = fetch_scene(alloc, shelf, net, arr)?;
-    let text = report_of_turns(alloc, &scene.network, &scene.arrivals)?;
-    Ok(Made::Done(text))
+impl SceneWork for TurnsWork {
+    ghost use Rattle.histories.specs.Histories as histories;
+    ghost use Rattle.network_jobs.specs.Headline.{Headline};
+
+    ghost writes = { λ work net arriving bytes. Headline net arriving (histories.turn_order net) bytes };
+
+    // The report of the run of the turn order.
+    fn write(
+        &self,
+        alloc: Global,
+        net: &Network,
+        arrivals: &Arrivals,
+    ) -> Result<Vec<u8>, AllocError> {
+        let history = turn_order(alloc, net)?;
+        report(alloc, net, arrivals, &history)
+    }
 }
 
 /// The command `turns NET ARR`: writes the report of the run of the turn order, with the network and the arrivals in the files. In
@@ -51,9 +47,9 @@ pub fn turns_job<S: Shelf, O: Sink, E: Sink>(
     out: &mut O,
     err: &mut E,
 ) -> Status
-    ensures { Outcome (Turns net.now arr.now)
+    ensures { Outcome (turns_meaning net.now arr.now)
         (record { shelf = S.state shelf.old; out = O.state out.old; err = E.state err.old })
         (record { shelf = S.state shelf.new; out = O.state out.new; err = E.state err.new }) result }
 {
-    end(alloc, make_report(alloc, shelf, net, arr), out, err)
+    scene_job(alloc, &TurnsWork, net, arr, shelf, out, err)
 }

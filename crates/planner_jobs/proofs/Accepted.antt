@@ -9,7 +9,7 @@ use Rattle.dp_certificate.specs.Proves.{Proves}
 use Rattle.certificate_form.specs.Answers as cert
 use Rattle.certificate_form.specs.Lengths.{text_bytes}
 use Rattle.certificate_form.specs.CertificateText.{HasText, certificate_text}
-use Rattle.commands.specs.Commands.{IsAcceptedText}
+use Rattle.planner_jobs.specs.Meanings.{IsAcceptedText}
 use Rattle.commands.specs.Limits.{most_bytes}
 
 -- this many entries and places make a text within the limit

@@ -1,6 +1,6 @@
 //! The text that `plan` writes.
 ghost use Rattle.std.specs.Prelude.{◌≡◌, IfOk};
-ghost use Rattle.commands.specs.Answers.{answer_text};
+ghost use Rattle.planner_jobs.specs.Answers.{answer_text};
 
 use schedule_meaning::Answer;
 use std::alloc::{AllocError, Global};

@@ -1,15 +1,15 @@
 //! The commands `certify FILE` and `certify_bound FILE`.
 ghost use Rattle.std.specs.Prelude.{◌≡◌};
-ghost use Rattle.command_words.specs.Calls.{Certify, CertifyBound};
-ghost use Rattle.commands.specs.{Ending.MakesCertificate, Outcome.Outcome};
+ghost use Rattle.commands.specs.Outcome.{Outcome};
+ghost use Rattle.planner_jobs.specs.{Delivery.MakesCertificate, Meanings.certify_bound_meaning, Meanings.certify_meaning};
 
 use crate::certificates::{Table, certificate_in_ledger};
 use crate::delivery::deliver;
+use crate::kinds::InstanceFile;
 use certificate_form::{law_of_certificate_text, law_of_certificates};
 use commands::{Refusal, Status, TextPlace, fetch};
 use dp_certificate::Certificate;
 use outside_world::{Shelf, Sink};
-use schedule_meaning::Instance;
 use std::alloc::Global;
 use std::marker::Brand;
 use std::sync::ledger::Blank;
@@ -22,11 +22,11 @@ fn certificate_of_file<S: Shelf>(
     file: &str,
 ) -> Result<Certificate, Refusal>
     ensures whole { table ≡ Table.Whole
-        → MakesCertificate (Certify file.now) (S.state shelf.old) (S.state shelf.new) result }
+        → MakesCertificate (certify_meaning file.now) (S.state shelf.old) (S.state shelf.new) result }
     ensures bounded { table ≡ Table.Bounded
-        → MakesCertificate (CertifyBound file.now) (S.state shelf.old) (S.state shelf.new) result }
+        → MakesCertificate (certify_bound_meaning file.now) (S.state shelf.old) (S.state shelf.new) result }
 {
-    let instance: Instance = fetch(alloc, shelf, TextPlace::First, file, &())?;
+    let instance = fetch::<InstanceFile, S>(alloc, shelf, TextPlace::First, file, &())?;
     let certificate = certificate_in_ledger::<Brand>(alloc, Blank::new(1), table, &instance)?;
     // Called for its clauses `lawful`, `is_text` and `short`.
     law_of_certificate_text(&certificate);
@@ -49,7 +49,7 @@ pub fn certify_job<S: Shelf, O: Sink, E: Sink>(
     out: &mut O,
     err: &mut E,
 ) -> Status
-    ensures { Outcome (Certify file.now)
+    ensures { Outcome (certify_meaning file.now)
         (record { shelf = S.state shelf.old; out = O.state out.old; err = E.state err.old })
         (record { shelf = S.state shelf.new; out = O.state out.new; err = E.state err.new }) result }
 {
@@ -67,7 +67,7 @@ pub fn certify_bound_job<S: Shelf, O: Sink, E: Sink>(
     out: &mut O,
     err: &mut E,
 ) -> Status
-    ensures { Outcome (CertifyBound file.now)
+    ensures { Outcome (certify_bound_meaning file.now)
         (record { shelf = S.state shelf.old; out = O.state out.old; err = E.state err.old })
         (record { shelf = S.state shelf.new; out = O.state out.new; err = E.state err.new }) result }
 {

@@ -1,16 +1,16 @@
 //! The command `certify_par FILE WIDTH`.
 ghost use Rattle.std.specs.Prelude.{◌≡◌, ℕ, ◌≤◌, List};
-ghost use Rattle.command_words.specs.Calls.{CertifyPar};
-ghost use Rattle.commands.specs.{Commands.IsWholeCertificate, Ending.MakesCertificate, Outcome.Outcome};
+ghost use Rattle.commands.specs.Outcome.{Outcome};
+ghost use Rattle.planner_jobs.specs.{Delivery.MakesCertificate, Meanings.IsWholeCertificate, Meanings.certify_meaning};
 ghost use Rattle.schedule_meaning.specs.Instances.{Problem};
 
 use crate::delivery::deliver;
+use crate::kinds::InstanceFile;
 use certificate_form::{law_of_certificate_text, law_of_certificates};
 use commands::{Refusal, Status, TextPlace, fetch};
 use dp_certificate::Certificate;
 use outside_world::{Shelf, Sink};
 use parallel_dp::certify_par;
-use schedule_meaning::Instance;
 use std::alloc::Global;
 use std::thread::Threads;
 
@@ -24,9 +24,9 @@ fn certificate_of_file<S: Shelf>(
     file: &str,
 ) -> Result<Certificate, Refusal>
     requires { (1 ≤ width) × (width ≤ 4096) }
-    ensures { MakesCertificate (CertifyPar file.now width) (S.state shelf.old) (S.state shelf.new) result }
+    ensures { MakesCertificate (certify_meaning file.now) (S.state shelf.old) (S.state shelf.new) result }
 {
-    let instance: Instance = fetch(alloc, shelf, TextPlace::First, file, &())?;
+    let instance = fetch::<InstanceFile, S>(alloc, shelf, TextPlace::First, file, &())?;
     let certificate = certify_par(rt, alloc, &instance, width)?;
     // Called for its clauses `lawful`, `is_text` and `short`.
     law_of_certificate_text(&certificate);
@@ -58,7 +58,7 @@ pub fn certify_par_job<S: Shelf, O: Sink, E: Sink>(
     err: &mut E,
 ) -> Status
     requires { (1 ≤ width) × (width ≤ 4096) }
-    ensures { Outcome (CertifyPar file.now width)
+    ensures { Outcome (certify_meaning file.now)
         (record { shelf = S.state shelf.old; out = O.state out.old; err = E.state err.old })
         (record { shelf = S.state shelf.new; out = O.state out.new; err = E.state err.new }) result }
 {

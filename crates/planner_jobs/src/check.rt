@@ -3,12 +3,13 @@ ghost use Rattle.std.specs.Prelude.{◌≡◌, ◌↔◌, ◌<◌, ℕ, List, If
 ghost use Rattle.schedule_meaning.specs.Best.{IsLeast};
 ghost use Rattle.dp_certificate.specs.Proves.{Proves};
 ghost use Rattle.cert_checker.specs.Verdicts.{IfRejected, IsWhy};
-ghost use Rattle.command_words.specs.Calls.{Check};
-ghost use Rattle.commands.specs.{Ending.IsMadeOf, Ending.Makes, Outcome.Outcome};
+ghost use Rattle.commands.specs.{Ending.IsMadeOf, Outcome.Outcome};
+ghost use Rattle.planner_jobs.specs.Meanings.{check_meaning};
 
-use super::verdicts::rejected_line;
+use crate::kinds::CertificateFile;
+use crate::verdicts::rejected_line;
 use cert_checker::Verdict;
-use commands::{Made, Refusal, Status, TextPlace, end, fetch};
+use commands::{Made, Refusal, Status, TextPlace, Work, fetch, job};
 use dp_certificate::Certificate;
 use foundation::steps::Steps;
 use outside_world::{Shelf, Sink};
@@ -40,7 +41,7 @@ fn verdict_in_ledger<L: Ledger>(c: &Certificate, blank: Blank) -> Verdict
 
 /// The verdict on a certificate, as it is written, whatever file it is in.
 fn verdict(alloc: Global, c: &Certificate) -> Result<Made, AllocError>
-    ensures { (file : List ℕ) → IfOk result (λ made. IsMadeOf (Check file) made (c.now, tt)) }
+    ensures { (file : List ℕ) → IfOk result (λ made. IsMadeOf (check_meaning file) made (c.now, tt)) }
 {
     match verdict_of(c) {
         Verdict::Accepted => {
@@ -54,13 +55,29 @@ fn verdict(alloc: Global, c: &Certificate) -> Result<Made, AllocError>
     }
 }
 
-/// The verdict on the certificate in a file.
-fn check_file<S: Shelf>(alloc: Global, shelf: &mut S, file: &str) -> Result<Made, Refusal>
-    ensures { Makes (Check file.now) (S.state shelf.old) (S.state shelf.new) result }
-{
-    let certificate: Certificate = fetch(alloc, shelf, TextPlace::First, file, &())?;
-    let made = verdict(alloc, &certificate)?;
-    Ok(made)
+/// `check` with the name of its file.
+#[derive(Clone, Copy)]
+struct CheckWork<'a> {
+    file: &'a str,
+}
+
+impl Work for CheckWork<'_> {
+    ghost use Rattle.planner_jobs.specs.Meanings.{check_meaning};
+
+    ghost means = { λ work. check_meaning work.file.now };
+
+    // The verdict on the certificate in the file.
+    fn make<S: Shelf>(&self, alloc: Global, shelf: &mut S) -> Result<Made, Refusal> {
+        let certificate = fetch::<CertificateFile, S>(
+            alloc,
+            shelf,
+            TextPlace::First,
+            self.file,
+            &(),
+        )?;
+        let made = verdict(alloc, &certificate)?;
+        Ok(made)
+    }
 }
 
 /// The command `check FILE`: writes the verdict on the certificate in the file, that it is accepted, or
@@ -76,9 +93,9 @@ pub fn check_job<S: Shelf, O: Sink, E: Sink>(
     out: &mut O,
     err: &mut E,
 ) -> Status
-    ensures { Outcome (Check file.now)
+    ensures { Outcome (check_meaning file.now)
         (record { shelf = S.state shelf.old; out = O.state out.old; err = E.state err.old })
         (record { shelf = S.state shelf.new; out = O.state out.new; err = E.state err.new }) result }
 {
-    end(alloc, check_file(alloc, shelf, file), out, err)
+    job(alloc, &CheckWork { file }, shelf, out, err)
 }

@@ -1,5 +1,5 @@
 //! How a certificate that a command made, or why it made none, is answered.
-ghost use Rattle.commands.specs.Ending.{EndsCertificate};
+ghost use Rattle.planner_jobs.specs.Delivery.{EndsCertificate};
 
 use certificate_form::{PutFault, put_certificate};
 use commands::{Refusal, Status, refuse};

@@ -8,6 +8,7 @@ mod certify;
 mod certify_par;
 mod check;
 mod delivery;
+mod kinds;
 mod plan;
 mod verdicts;
 

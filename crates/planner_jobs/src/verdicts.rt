@@ -1,12 +1,12 @@
 //! The lines that `check` writes.
 ghost use Rattle.std.specs.Prelude.{◌≡◌, ◌∷◌, ◌++◌, IfOk, OnOk};
-ghost use Rattle.commands.specs.Verdicts.{rejected_line, sequence_text, unfit_name, why_text};
+ghost use Rattle.planner_jobs.specs.Verdicts.{rejected_line, sequence_text, unfit_name, why_text};
 
 use cert_checker::Why;
 use schedule_meaning::SeqFault;
 use std::alloc::{AllocError, Global};
 use switch_rules::Unfit;
-use text_faults::{push_one, push_two};
+use text_lines::{push_one, push_two};
 
 /// The line that `check` writes for a certificate that does not prove its answer. `Err`: out of memory.
 ///

@@ -3,22 +3,24 @@ ghost use Rattle.std.specs.Prelude.{◌≡◌, ◌≢◌, ◌↔◌};
 ghost use Rattle.command_words.specs.Calls.{Call, IsCall, IsOfControllers, IsOverNetwork, IsWithin, call_of};
 ghost use Rattle.commands.specs.{Outcome.Outcome, Refusals.Says};
 ghost use Rattle.commands.specs.declared.refusals.Refusal.TheVariants as refusal;
+ghost use Rattle.signal_cli.specs.Meanings.{meaning_of};
 
 use audit_jobs::{audit_job, queues_job};
 use board_model::Gate;
 use command_words::{Command, command_of};
-use commands::{Refusal, Status, refuse};
+use commands::{Refusal, Status, job, refuse};
 use controller_jobs::{
-    actuate_job, compare_fixed_job, compare_job, decide_job, decide_node_job, fixed_job, scale_job,
-    spill_job, spill_report_job,
+    BoundsFixedWork, BoundsWork, CompareFixedWork, FixedWork, SpillActuatedWork, actuate_job,
+    compare_job, scale_job, spill_job,
 };
 use foundation::text::Text;
 use network_jobs::{
-    bounds_fixed_job, bounds_job, grid_job, instance_job, net_job, replay_job, totals_job,
-    turns_job, upgrade_job,
+    TotalsWork, UpgradeWork, grid_job, instance_job, net_job, replay_job, turns_job,
 };
 use outside_world::{Shelf, Sink};
 use planner_jobs::{certify_bound_job, certify_job, certify_par_job, check_job, plan_job};
+use round_jobs::{DecideNodeWork, DecideWork};
+use scene_jobs::{network_job, scene_job};
 use std::alloc::Global;
 use std::sync::Wait;
 use std::thread::Threads;
@@ -44,7 +46,7 @@ pub fn signal<R: Threads + Wait + Sync, S: Shelf, O: Sink, E: Sink, G: Gate + Sy
         × (O.state out.new ≡ O.state out.old)
         × Says refusal.Usage (E.state err.old) (E.state err.new) }
     ensures called { result ≢ Status.Usage → (call : Call) × IsCall words.now call }
-    ensures outcome { (call : Call) → IsCall words.now call → Outcome call
+    ensures outcome { (call : Call) → IsCall words.now call → Outcome (meaning_of call)
         (record { shelf = S.state shelf.old; out = O.state out.old; err = E.state err.old })
         (record { shelf = S.state shelf.new; out = O.state out.new; err = E.state err.new }) result }
 {
@@ -65,7 +67,7 @@ fn run<R: Threads + Wait + Sync, S: Shelf, O: Sink, E: Sink, G: Gate + Sync>(
     gate: &G,
 ) -> Status
     requires { IsWithin (call_of command) }
-    ensures { Outcome (call_of command.entry)
+    ensures { Outcome (meaning_of (call_of command.entry))
         (record { shelf = S.state shelf.old; out = O.state out.old; err = E.state err.old })
         (record { shelf = S.state shelf.new; out = O.state out.new; err = E.state err.new }) result }
 {
@@ -100,9 +102,15 @@ fn run<R: Threads + Wait + Sync, S: Shelf, O: Sink, E: Sink, G: Gate + Sync>(
             side,
             rounds,
         } => grid_job(alloc, number, side, rounds, out, err),
-        Command::Upgrade { net } => upgrade_job(alloc, net, shelf, out, err),
-        Command::Bounds { net } => bounds_job(alloc, net, shelf, out, err),
-        Command::BoundsFixed { net, plan } => bounds_fixed_job(alloc, net, plan, shelf, out, err),
+        Command::Upgrade { net } => network_job(alloc, &UpgradeWork, net, shelf, out, err),
+        Command::Bounds { net } => network_job(alloc, &BoundsWork, net, shelf, out, err),
+        Command::BoundsFixed { net, plan } => job(
+            alloc,
+            &BoundsFixedWork { net, plan },
+            shelf,
+            out,
+            err,
+        ),
     }
 }
 
@@ -118,13 +126,13 @@ fn run_over_network<R: Threads + Wait + Sync, S: Shelf, O: Sink, E: Sink, G: Gat
 ) -> Status
     requires within { IsWithin (call_of command) }
     requires over { IsOverNetwork (call_of command) }
-    ensures { Outcome (call_of command.entry)
+    ensures { Outcome (meaning_of (call_of command.entry))
         (record { shelf = S.state shelf.old; out = O.state out.old; err = E.state err.old })
         (record { shelf = S.state shelf.new; out = O.state out.new; err = E.state err.new }) result }
 {
     match command {
         Command::Turns { net, arr } => turns_job(alloc, net, arr, shelf, out, err),
-        Command::Totals { net, arr } => totals_job(alloc, net, arr, shelf, out, err),
+        Command::Totals { net, arr } => scene_job(alloc, &TotalsWork, net, arr, shelf, out, err),
         Command::Replay { net, arr, hist } => replay_job(alloc, net, arr, hist, shelf, out, err),
         Command::Net { net, arr } => net_job(rt, alloc, net, arr, shelf, out, err, gate),
         Command::Instance {
@@ -163,16 +171,22 @@ fn run_controllers<S: Shelf, O: Sink, E: Sink>(
 ) -> Status
     requires within { IsWithin (call_of command) }
     requires controllers { IsOfControllers (call_of command) }
-    ensures { Outcome (call_of command.entry)
+    ensures { Outcome (meaning_of (call_of command.entry))
         (record { shelf = S.state shelf.old; out = O.state out.old; err = E.state err.old })
         (record { shelf = S.state shelf.new; out = O.state out.new; err = E.state err.new }) result }
 {
     match command {
         Command::Actuate { net, arr } => actuate_job(alloc, net, arr, shelf, out, err),
-        Command::Fixed { net, arr, plan } => fixed_job(alloc, net, arr, plan, shelf, out, err),
+        Command::Fixed { net, arr, plan } => job(
+            alloc,
+            &FixedWork { net, arr, plan },
+            shelf,
+            out,
+            err,
+        ),
         Command::Compare { net, arr } => compare_job(alloc, net, arr, shelf, out, err),
         Command::CompareFixed { net, arr, plan } => {
-            compare_fixed_job(alloc, net, arr, plan, shelf, out, err)
+            job(alloc, &CompareFixedWork { net, arr, plan }, shelf, out, err)
         }
         Command::Scale {
             net,
@@ -183,11 +197,17 @@ fn run_controllers<S: Shelf, O: Sink, E: Sink>(
         } => scale_job(alloc, net, arr, first, last, step, shelf, out, err),
         Command::Spill { net, arr, store } => spill_job(alloc, net, arr, store, shelf, out, err),
         Command::SpillActuated { net, arr, store } => {
-            spill_report_job(alloc, net, arr, store, shelf, out, err)
+            job(
+                alloc,
+                &SpillActuatedWork { net, arr, store },
+                shelf,
+                out,
+                err,
+            )
         }
-        Command::Decide { net, state } => decide_job(alloc, net, state, shelf, out, err),
+        Command::Decide { net, state } => job(alloc, &DecideWork { net, state }, shelf, out, err),
         Command::DecideNode { net, state, node } => {
-            decide_node_job(alloc, net, state, node, shelf, out, err)
+            job(alloc, &DecideNodeWork { net, state, node }, shelf, out, err)
         }
         _ => unreachable!(),
     }

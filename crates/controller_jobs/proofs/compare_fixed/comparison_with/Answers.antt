@@ -1,6 +1,6 @@
 use Rattle.std.proofs.Common.{codes, ◌++◌, ap, ◌∙◌}
 use Rattle.net_simulator.specs.declared.totals.Totals.{Totals}
-use Rattle.commands.specs.Summary.{totals_line}
+use Rattle.bounded_runs.specs.Totals.{totals_line}
 use Rattle.controller_jobs.proofs.compare_fixed.comparison_with.Goals as goal
 
 pub returns : goal.returns

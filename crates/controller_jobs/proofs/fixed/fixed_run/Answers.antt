@@ -11,7 +11,7 @@ use Rattle.control_flow.specs.declared.greens.Green.{Green}
 use Rattle.net_simulator.specs.Shown.{cumulative_of_lines}
 use Rattle.net_simulator.specs.Sums.{end_of_run}
 use Rattle.waits.specs.Discharges.{AreWaitsWithin}
-use Rattle.commands.specs.Controllers.{fixed_timelines}
+use Rattle.controller_jobs.specs.Controllers.{fixed_timelines}
 use Rattle.controller_jobs.proofs.fixed.fixed_run.Goals as goal
 
 pub run_lines-requires-clause-nodes : goal.run_lines-requires-clause-nodes

@@ -1,6 +1,6 @@
 use Rattle.std.proofs.Common.{rules, refl}
 use Rattle.arrivals.specs.Amounts.{arriving_of}
-use Rattle.commands.specs.Summary.{scale_line}
+use Rattle.controller_jobs.specs.Controllers.{scale_line}
 use Rattle.controller_jobs.proofs.scale.push_factor.Goals as goal
 
 pub returns-clause-ok : goal.returns-clause-ok

@@ -2,7 +2,7 @@ use Rattle.std.proofs.Common.{List, ap, ◌∙◌}
 use Rattle.arrivals.specs.Amounts.{arriving_of}
 use Rattle.control_flow.specs.declared.greens.Green.{Green}
 use Rattle.net_simulator.specs.Worlds.{line_in, signs_by}
-use Rattle.commands.specs.Storages.{spilled_under}
+use Rattle.controller_jobs.specs.Storages.{spilled_under}
 use Rattle.controller_jobs.proofs.spill.planned_totals.Goals as goal
 
 pub returns : goal.returns

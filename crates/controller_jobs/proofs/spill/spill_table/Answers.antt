@@ -1,5 +1,5 @@
 use Rattle.std.proofs.Common.{ℕ, List, ◌++◌, codes, ap, ◌∙◌}
-use Rattle.commands.specs.Summary.{spilled_line}
+use Rattle.controller_jobs.specs.Storages.{spilled_line}
 use Rattle.controller_jobs.proofs.spill.spill_table.Goals as goal
 
 pub returns : goal.returns

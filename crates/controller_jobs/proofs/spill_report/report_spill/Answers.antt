@@ -10,7 +10,7 @@ use Rattle.net_simulator.specs.Worlds.{line_in, signs_by}
 use Rattle.net_simulator.specs.declared.totals.LinkTotals.{LinkTotals}
 use Rattle.spillback_world.specs.Storage.{cumulative_in}
 use Rattle.spillback_world.specs.StoredLinks.{stored_links}
-use Rattle.commands.specs.Storages.{told_totals}
+use Rattle.controller_jobs.specs.Storages.{told_totals}
 use Rattle.controller_jobs.proofs.spill_report.report_spill.Goals as goal
 
 pub report_text-requires : goal.report_text-requires

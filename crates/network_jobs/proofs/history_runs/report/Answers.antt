@@ -1,7 +1,7 @@
 use Rattle.std.proofs.Common.{Vec, Global, ℕ}
 use Rattle.std.proofs.lemmas.Result.{IfOk-weaker}
 use Rattle.arrivals.specs.Amounts.{arriving_of}
-use Rattle.commands.specs.Headline.{Headline}
+use Rattle.network_jobs.specs.Headline.{Headline}
 use Rattle.network_jobs.proofs.Headlines.{headline}
 use Rattle.network_jobs.proofs.history_runs.report.Goals as goal
 

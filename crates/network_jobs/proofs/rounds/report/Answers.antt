@@ -4,7 +4,7 @@ use Rattle.arrivals.specs.Amounts.{arriving_of}
 use Rattle.delay_report.specs.Reports.{report_text}
 use Rattle.delay_report.specs.Texts.{IsHistoryText}
 use Rattle.histories.proofs.Sorting.{merge-of}
-use Rattle.commands.specs.Headline.{ToldHeadline}
+use Rattle.network_jobs.specs.Headline.{ToldHeadline}
 use Rattle.network_jobs.specs.Merged.{IsTextOfMerge}
 use Rattle.network_jobs.proofs.Headlines.{headline}
 use Rattle.network_jobs.proofs.rounds.report.Goals as goal

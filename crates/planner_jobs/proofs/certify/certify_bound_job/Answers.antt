@@ -1,5 +1,5 @@
 use Rattle.std.proofs.Common.{refl}
-use Rattle.commands.proofs.Outcomes.{certificate_outcome}
+use Rattle.planner_jobs.proofs.Delivered.{certificate_outcome}
 use Rattle.planner_jobs.proofs.certify.certify_bound_job.Goals as goal
 
 pub returns : goal.returns

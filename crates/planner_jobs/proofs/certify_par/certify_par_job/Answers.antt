@@ -1,4 +1,4 @@
-use Rattle.commands.proofs.Outcomes.{certificate_outcome}
+use Rattle.planner_jobs.proofs.Delivered.{certificate_outcome}
 use Rattle.planner_jobs.proofs.certify_par.certify_par_job.Goals as goal
 
 pub returns : goal.returns

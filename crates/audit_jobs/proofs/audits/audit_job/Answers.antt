@@ -1,5 +1,0 @@
-use Rattle.commands.proofs.Outcomes.{outcome}
-use Rattle.audit_jobs.proofs.audits.audit_job.Goals as goal
-
-pub returns : goal.returns
-returns g c = outcome _ _ _ _ _ c.audit_files.ensures c.end.ensures

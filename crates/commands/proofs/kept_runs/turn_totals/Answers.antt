@@ -1,6 +1,0 @@
-use Rattle.arrivals.specs.Amounts.{arriving_of}
-use Rattle.commands.proofs.Kept.{all_turned}
-use Rattle.commands.proofs.kept_runs.turn_totals.Goals as goal
-
-pub returns : goal.returns
-returns c = all_turned c.args.net.now (arriving_of c.args.arrivals.now) c.totals_of_turns.result c.totals_of_turns.ensures

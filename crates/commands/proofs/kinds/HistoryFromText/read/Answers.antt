@@ -1,7 +1,0 @@
-use Rattle.std.proofs.Common.{rules}
-use Rattle.commands.proofs.kinds.HistoryFromText.read.Goals as goal
-
-pub returns-in-Err-clause-refused : goal.returns-in-Err-clause-refused
-returns-in-Err-clause-refused c =
-    let fault = c.in-Err.fault in
-    (λ said reads. c.in-Err.ensures.refused (λ e. search rules) said reads.1, (c.requires, (c.in-Err.ensures.first, λ e. search rules)))

@@ -1,5 +1,0 @@
-use Rattle.commands.proofs.Outcomes.{outcome}
-use Rattle.controller_jobs.proofs.actuate.actuate_job.Goals as goal
-
-pub returns : goal.returns
-returns g c = outcome _ _ _ _ _ c.actuate_files.ensures c.end.ensures

@@ -1,9 +1,0 @@
-use Rattle.std.proofs.Common.{map}
-use Rattle.std.specs.List.{range_with_len}
-use Rattle.world_records.specs.Written.{Adds}
-use Rattle.commands.specs.Bounds.{bound_record}
-use Rattle.waits.specs.Bounds.{phase_bounds}
-use Rattle.network_jobs.proofs.bounds_text.write_node.Given as goal
-
-abbrev pub invariant-loop-phase : goal.invariant-loop-phase
-invariant-loop-phase l = Adds l.fn.out l.out (map (λ k. bound_record l.net (phase_bounds l.net l.node k)) (range_with_len 0 l.phase))

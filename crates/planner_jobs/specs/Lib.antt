@@ -1,0 +1,5 @@
+pub mod Answers
+pub mod Delivery
+pub mod Kinds
+pub mod Meanings
+pub mod Verdicts

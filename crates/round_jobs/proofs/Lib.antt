@@ -1,0 +1,4 @@
+pub mod Decided
+mod GatherLaws
+pub mod NextLaws
+mod ServeLaws

@@ -1,0 +1,2 @@
+pub mod EarlyStops
+pub mod NoReading
