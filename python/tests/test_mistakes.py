@@ -1,4 +1,4 @@
-"""Tests of explanations of refusals, by the table of mistakes beside the files that have them."""
+"""Tests of explanations of refusals, by the table of mistakes and the files that have them."""
 
 import os
 import shutil
@@ -7,13 +7,14 @@ import tomllib
 import unittest
 from concurrent.futures import ThreadPoolExecutor
 from pathlib import Path
+from tempfile import TemporaryDirectory
 
 from kolvunh.explain import calls, lines_on
 
+from .mistaken_files import TABLE, MisplacedChange, changed, sections, write_mistaken_files
 from .worked import ROOT
 
-FOLDER = Path(__file__).resolve().parent / "mistakes"
-MISTAKES = tomllib.loads((FOLDER / "table.toml").read_text(encoding="utf-8"))["mistake"]
+MISTAKES = tomllib.loads(TABLE.read_text(encoding="utf-8"))["mistake"]
 
 
 def program() -> str | None:
@@ -29,17 +30,24 @@ def answered(mistake: dict[str, str]) -> tuple[str, str]:
 
 
 class MistakesTest(unittest.TestCase):
+    @classmethod
+    def setUpClass(cls):
+        place = TemporaryDirectory()
+        cls.addClassCleanup(place.cleanup)
+        cls.folder = Path(place.name).resolve()
+        write_mistaken_files(cls.folder)
+
     def setUp(self):
         before = os.getcwd()
         self.addCleanup(os.chdir, before)
-        os.chdir(FOLDER)
+        os.chdir(self.folder)
 
     def test_what_is_said(self):
         self.assertGreaterEqual(len(MISTAKES), 100)
         for mistake in MISTAKES:
             with self.subTest(words=mistake["words"]):
                 said = lines_on(mistake["words"].split(), mistake["line"])
-                self.assertEqual("\n".join(said).replace(str(FOLDER), "FOLDER"), mistake["says"])
+                self.assertEqual("\n".join(said).replace(str(self.folder), "FOLDER"), mistake["says"])
 
     def test_words_of_the_script_alone(self):
         for words, said in (
@@ -57,7 +65,12 @@ class MistakesTest(unittest.TestCase):
 
     def test_each_file_is_named(self):
         named = {word for mistake in MISTAKES for word in mistake["words"].split()}
-        self.assertEqual({path.name for path in FOLDER.iterdir()} - named, {"table.toml"})
+        self.assertLessEqual({path.name for path in self.folder.iterdir()}, named | {base for base, _ in sections().values()})
+
+    def test_changes(self):
+        self.assertEqual(changed(["a", "b", "c", "d"], ["0 + x", "2 - b", "2 + y", "3..4 -", "4 + z", "4 +"]), ["x", "a", "y", "z", ""])
+        with self.assertRaises(MisplacedChange):
+            changed(["a", "b"], ["1 - b"])
 
     @unittest.skipUnless(program(), "no program is built")
     def test_the_lines_of_the_program(self):
