@@ -6,6 +6,8 @@
     page NET ARR REPORT ..    a page for a browser: reports side by side, time and space, queues, splits, coordination
     summary NET ARR [REPORT]  a run in a dozen lines, in vehicles and seconds
     explain WORDS ..          calls the program by the words, and says of a refusal what is wrong and where
+    to-log NET REPORT [ARR]   a report as a log of controllers' events
+    from-log NET LOG [ARR]    a log of controllers' events as a sheet for `audit`, and as arrivals
     sweep NET ARR ..          a network under several demands with several seeds
     orders NET ARR ..         a network in many orders of its nodes, and from which delay to which they come
     districts NET ARR ..      a city cut into districts, each a process under MPI
@@ -22,6 +24,8 @@ import sys
 MODULES = {
     "check-input": "check_input",
     "draw": "draw",
+    "to-log": "logs.to_log",
+    "from-log": "logs.from_log",
     "explain": "explain.command",
     "measures": "measures",
     "page": "page",
