@@ -6,8 +6,7 @@ as `control_flow/Greens.IsLawful`. Each definition comes before those that it re
 NAME rests on in it; after the files come the data types of the sources, and the names of libraries, which are only
 listed. What NAME rests on only by way of a name of `--skip` is marked, and comes as early as it may.
 
-`--renew FILE ..` renews pages: a page is written anew below its line `<!-- tools/definitions.py WORDS -->`, as the
-call with these words prints it; and in each table with a column `below it` the counts of its rows are.
+`--renew FILE ..` renews pages: in each table with a column `below it` the counts of its rows are written anew.
 
 The exit status is 0, or 2 where a name or a file is not there; a line on standard error then says which.
 """
@@ -24,7 +23,6 @@ ROOT = Path(__file__).resolve().parents[1]
 USE = re.compile(r"^\s*(?P<pub>pub )?(?:ghost )?use (?P<path>[\w.]+?)(?:\.\{(?P<names>[^}]*)\}| as (?P<alias>\w+))?;?$")
 HEAD = re.compile(r"^(?P<indent>\s*)(?:abbrev |unfoldable )?pub (?:(?P<kind>record|data) )?(?P<name>[^\s:]+)")
 TYPE = re.compile(r"^\s*(?:pub(?:\(crate\))? )?(?:struct|enum|trait|type) (?P<name>\w+)")
-MARK = re.compile(r"<!-- tools/definitions.py (.*) -->")
 
 
 class Unknown(Exception):
@@ -614,15 +612,8 @@ def with_counts(house, root, lines):
 
 
 def renew(house, text):
-    """A page with its counts, and with what is below its mark, as they are now."""
-    lines = list(with_counts(house, find(house, "Headline"), text.splitlines()))
-    for at, line in enumerate(lines):
-        mark = MARK.fullmatch(line)
-        if mark:
-            words = parser().parse_args(mark[1].split())
-            lines[at + 1 :] = ["", *page_of(house, words.name, words.skip)]
-            break
-    return "\n".join(lines) + "\n"
+    """A page with its counts as they are now."""
+    return "\n".join(with_counts(house, find(house, "Headline"), text.splitlines())) + "\n"
 
 
 def parser():

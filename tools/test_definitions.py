@@ -1,4 +1,4 @@
-"""Tests of tools/definitions.py, and of the pages that it writes: python3 -m unittest discover tools"""
+"""Tests of tools/definitions.py, and of the page whose counts it writes: python3 -m unittest discover tools"""
 
 import re
 import subprocess
@@ -10,7 +10,7 @@ from pathlib import Path
 import definitions
 
 ROOT = Path(__file__).resolve().parents[1]
-PAGES = [ROOT / "docs" / "HEADLINE.md", ROOT / "docs" / "DEFINITIONS.md"]
+PAGES = [ROOT / "docs" / "READING.md"]
 
 # A repository of two crates, in which `Top` rests on all but `unused` and the crate's other `size`.
 FILES = {
