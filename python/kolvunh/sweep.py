@@ -4,9 +4,9 @@
 
 For each demand and seed vehicles are drawn: a link that ARR brings vehicles to gets one in each second with the probability
 that ARR has on the average, times the demand. Each run is a process of the program, on files of its own. A series is `turns`
-or `actuate`, or an order of tools/orders.py by which `replay` runs the nodes: `backward`, `read_first`, or `random`, drawn by
-the seed. Keys of the file's [run] may follow, as `actuate:act_step=1,gap=3`; a key without a value, as `turns:hold=`, is left
-out. The CSV has the header `series,x,y`: series, demand, and delay in seconds for each vehicle that entered; tools/draw.py
+or `actuate`, a fixed plan, as `fixed:plan=today.csv`, or an order of tools/orders.py by which `replay` runs the nodes: `backward`,
+`read_first`, or `random`, drawn by the seed. Keys of the file's [run] may follow, as `actuate:act_step=1,gap=3`; a key without a
+value, as `turns:hold=`, is left out. The CSV has the header `series,x,y`: series, demand, and delay in seconds for each vehicle that entered; tools/draw.py
 draws it, and makes a table of it. With --part only each Nth run, from the Kth (from 0) on, is done, and only the first part
 writes the header: so N processes or machines share the work, and their outputs, one after another, are the whole. Nothing
 here is proved.
@@ -16,80 +16,30 @@ import argparse
 import csv
 import itertools
 import os
-import random
 import sys
-import tempfile
-from collections import Counter
-from collections.abc import Sequence
+from collections.abc import Callable
 from concurrent.futures import ThreadPoolExecutor
 from functools import partial
 from pathlib import Path
 
-from .arrivals import VEHICLE, Arrival, arrivals_text, read_arrivals, require_links
+from .arrivals import read_arrivals, require_links
 from .commands import Words, end
 from .faults import Fault
 from .networks import read_network
-from .orders import BACKWARD, RANDOM, READ_FIRST, history_text
-from .programs import built_program_words, run, split_words
+from .programs import built_program_words, split_words
+from .series import Series, delay_each, draw_arrivals, rates_of, series_of, totals_under
 
 MOST_DEMAND = 1000  # times the vehicles that a file brings
-COMMANDS = ("turns", "actuate", BACKWARD, READ_FIRST, RANDOM)
 
 
-def rates_of(arrivals: Sequence[Arrival]) -> tuple[dict[str, float], int]:
-    """Vehicles a second on each link on the average, and for how many seconds they come."""
-    if not arrivals:
-        raise Fault("there are no arrivals")
-    seconds = 1 + max(arrival.second for arrival in arrivals)
-    amounts: Counter[str] = Counter()
-    for arrival in arrivals:
-        amounts[arrival.link] += arrival.amount
-    return {link: amount / VEHICLE / seconds for link, amount in amounts.items()}, seconds
-
-
-def draw_arrivals(rates: dict[str, float], seconds: int, demand: float, seed: int) -> str:
-    """A file of arrivals at a demand, the same for the same seed."""
-    draw, drawn = random.Random(f"{demand} {seed}"), []
-    for second, (link, rate) in itertools.product(range(seconds), rates.items()):
-        count = int(rate * demand + draw.random())
-        drawn += [Arrival(second, link, VEHICLE * count)] if count else []
-    return arrivals_text(drawn)
-
-
-def keys_of(series: str) -> dict[str, str]:
-    """The keys of [run] that a series sets."""
-    _, _, words = series.partition(":")
-    return {key: value for key, _, value in (word.partition("=") for word in words.split(",") if word)}
-
-
-def network_text(text: str, keys: dict[str, str]) -> str:
-    """The text of a network file with these keys of its [run], and those of its own that have other names."""
-    lines = text.splitlines()
-    begin = next((at for at, line in enumerate(lines, 1) if line.strip().startswith("[run]")), None)
-    if begin is None:
-        raise Fault("no line of the network is [run], so none of its keys can be set")
-    end = next((at for at, line in enumerate(lines[begin:], begin) if line.startswith("[")), len(lines))
-    kept = [line for line in lines[begin:end] if line.partition("=")[0].strip() not in keys]
-    return "\n".join([*lines[:begin], *(f"{key} = {value}" for key, value in keys.items() if value), *kept, *lines[end:], ""])
-
-
-def delay(options: argparse.Namespace, rates: dict[str, float], seconds: int, task: tuple[float, int, str]) -> float:
+def delay(options: argparse.Namespace, draw: Callable[[float, int], str], task: tuple[float, int, Series]) -> float:
     """The delay in seconds for each vehicle that entered in one run."""
     demand, seed, series = task
-    command = series.partition(":")[0]
-    with tempfile.TemporaryDirectory() as place:
-        network, arrivals, history = (Path(place) / name for name in ("network.toml", "arrivals.csv", "history.csv"))
-        network.write_text(network_text(options.network.read_text(), keys_of(series)))
-        arrivals.write_text(draw_arrivals(rates, seconds, demand, seed))
-        words = [command, network, arrivals]
-        if command in (BACKWARD, READ_FIRST, RANDOM):
-            history.write_text(history_text(read_network(network), command, seed))
-            words = ["replay", network, arrivals, history]
-        answer = run(words, options.program)
-    if answer.status:
-        raise Fault(f"{series} at {demand} with seed {seed}: {answer.refusal}{''.join(f'; {line}' for line in answer.explanation)}")
-    totals = answer.records.totals
-    return totals.delay / max(1, totals.entered)
+    network = options.network.read_text(encoding="utf-8")
+    try:
+        return delay_each(totals_under(series, network, draw(demand, seed), seed, options.program))
+    except Fault as fault:
+        raise Fault(f"at demand {demand:g}: {fault}") from None
 
 
 def options_of() -> argparse.Namespace:
@@ -106,9 +56,10 @@ def options_of() -> argparse.Namespace:
     options = parser.parse_args()
     if options.jobs < 1 or options.seeds < 1 or not all(0 <= demand <= MOST_DEMAND for demand in options.demands):
         parser.error(f"--jobs and --seeds are above 0, and demands from 0 to {MOST_DEMAND}")
-    for series in options.series:
-        if series.partition(":")[0] not in COMMANDS or not all(keys_of(series)):
-            parser.error(f"{series} is no series: it begins with one of {', '.join(COMMANDS)}, and a key=value may follow after a colon")
+    try:
+        options.series = [series_of(series) for series in options.series]
+    except Fault as fault:
+        parser.error(str(fault))
     return options
 
 
@@ -132,13 +83,13 @@ def work() -> None:
     until = min(until, network.run.known_seconds)
     tasks = list(itertools.product(options.demands, range(1, options.seeds + 1), options.series))[part::parts]
     with ThreadPoolExecutor(options.jobs) as pool:
-        delays = pool.map(partial(delay, options, rates, until), tasks)
+        delays = pool.map(partial(delay, options, partial(draw_arrivals, rates, until)), tasks)
         if part == 0:
             print("series,x,y")
         try:
             rows = csv.writer(sys.stdout, lineterminator="\n")
             for (demand, _, series), seconds in zip(tasks, delays):
-                rows.writerow([series, demand, f"{seconds:.3f}"])
+                rows.writerow([series.name, demand, f"{seconds:.3f}"])
                 sys.stdout.flush()
         except BaseException:
             pool.shutdown(cancel_futures=True)
