@@ -1,0 +1,134 @@
+"""Tests of the pages: what they lead to is there, each command is listed, and what they count is counted right."""
+
+import re
+import unittest
+from functools import cache
+from pathlib import Path
+
+import definitions
+from crates import ROOT, at_or_below, crate_lines
+
+PAGES = sorted(path for place in (".", "docs", "examples", "bench", "tools/sumo") for path in (ROOT / place).glob("*.md"))
+LINK = re.compile(r"\[[^\]\n]*\]\(([^)\s]+)\)((?:,\s+(?:\"[^\"]+\"|sections?\s+\d+(?:(?:,\s+\d+)*\s+and\s+\d+)?))*)")
+HEADING = re.compile(r"^#+ (.+)$", re.M)
+PLACE = re.compile(r"`((?:crates|docs|tools|python|bench|examples|\.ci)/[\w./-]+)`")
+# A file of specs with the definitions named after it, up to the end of the sentence; a file without a crate is of the crate before it.
+CITED = re.compile(r"`(?:crates/(\w+)/specs/)?(\w+)\.antt`((?:,?\s+(?:and\s+)?`(?!\w+\.antt`)[^`/]+`)*)")
+
+
+def without_code(text: str) -> str:
+    """A page without its blocks of code."""
+    return re.sub(r"(?m)^(?: {4}|\t).*$", "", re.sub(r"(?ms)^```.*?^```$", "", text))
+
+
+@cache
+def text_of(page: Path) -> str:
+    return page.read_text(encoding="utf-8")
+
+
+def headings(page: Path) -> list[str]:
+    return [heading.replace("`", "") for heading in HEADING.findall(without_code(text_of(page)))]
+
+
+def dead_links(page: Path):
+    """The links of a page that lead nowhere, with the sections that are named after them."""
+    for target, sections in LINK.findall(without_code(text_of(page))):
+        file, _, anchor = target.partition("#")
+        if "://" in file:
+            continue
+        path = (page.parent / file).resolve() if file else page
+        if not path.exists():
+            yield target
+        elif path.suffix == ".md":
+            there = headings(path)
+            if anchor and f"#{anchor}" not in map(definitions.anchor_of, there):
+                yield target
+            numbers = [number for part in re.findall(r"sections?\s+([\d,\sand]+)", sections) for number in re.findall(r"\d+", part)]
+            yield from (f"{target}, section {number}" for number in numbers if not any(name.startswith(f"{number}. ") for name in there))
+            names = [re.sub(r"\s+", " ", name) for name in re.findall(r'"([^"]+)"', sections)]
+            yield from (f'{target}, "{name}"' for name in names if name not in (re.sub(r"^\d+\. ", "", other) for other in there) and f"**{name}" not in text_of(path))
+
+
+def dead_places(page: Path):
+    """The files that a page names and that are not there; a place with a word in capitals stands for several."""
+    for place in PLACE.findall(text_of(page)):
+        if not re.search(r"\b[A-Z]+\b(?!\.md|\.txt)", place) and not (ROOT / place).exists():
+            yield place
+
+
+def dead_definitions(house: definitions.House, page: Path):
+    """The definitions that a page names after a file of specs and that are not in it."""
+    crate = ""
+    for named, file, names in CITED.findall(without_code(text_of(page))):
+        crate = named or crate
+        found = house.files.get((crate, file))
+        for name in re.findall(r"`([^`]+)`", names):
+            if named and found is None:
+                yield f"{crate}/{file}"
+            elif found is not None and re.fullmatch(r"[\w']+", name) and name not in found.definitions:
+                yield f"{crate}/{file}.{name}"
+
+
+class Pages(unittest.TestCase):
+    """What each page leads to."""
+
+    def test_links(self):
+        for page in PAGES:
+            with self.subTest(page=str(page.relative_to(ROOT))):
+                self.assertEqual(list(dead_links(page)), [])
+
+    def test_places(self):
+        for page in PAGES:
+            with self.subTest(page=str(page.relative_to(ROOT))):
+                self.assertEqual(list(dead_places(page)), [])
+
+    def test_definitions(self):
+        house = definitions.House()
+        for page in PAGES:
+            with self.subTest(page=str(page.relative_to(ROOT))):
+                self.assertEqual(list(dead_definitions(house, page)), [])
+
+    def test_commands_are_listed(self):
+        listed = text_of(ROOT / "docs/FORMATS.md")
+        commands = re.findall(r"^== (\S+)", text_of(ROOT / "tools/help.txt"), re.M)
+        self.assertEqual([name for name in commands if not re.search(rf"`(?:\./signal )?{name}[ `]", listed)], [])
+
+
+class Counts(unittest.TestCase):
+    """What pages count, but for what was measured at its time."""
+
+    def test_counts(self):
+        house = definitions.House()
+        safe = definitions.size_of(definitions.specs_of(house, definitions.below(house, [definitions.find(house, "IsSafe")])))
+        lines = crate_lines(text_of(ROOT / "crates.txt"))
+        counts = {
+            r"(\d+) of (\d+) lines": [tuple(map(str, safe))],
+            r"(\d+) crates\b": [str(len(lines)), str(len(at_or_below("signal_program", lines)))],
+            r"(\d+) wrong bodies": [str(len(list(ROOT.glob(f"crates/*/{folder}/*.edit")))) for folder in ("must-fail", "*-*")],
+            r"Python \(?(\d\.\d+)": re.findall(r'requires-python = ">=(\S+)"', text_of(ROOT / "python/pyproject.toml")),
+        }
+        for page in PAGES:
+            if page.name not in ("FIGURES.md", "STUDIES.md"):
+                for pattern, right in counts.items():
+                    with self.subTest(page=str(page.relative_to(ROOT)), count=pattern):
+                        self.assertEqual([found for found in re.findall(pattern, text_of(page)) if found not in right], [])
+
+    def test_map_has_each_crate(self):
+        named = re.findall(r"^\| `(\w+)` \|", text_of(ROOT / "docs/MAP.md"), re.M)
+        self.assertEqual(sorted(named), sorted(crate_lines(text_of(ROOT / "crates.txt"))))
+
+
+class Small(unittest.TestCase):
+    """The tests themselves, on text made by hand."""
+
+    def test_what_is_found(self):
+        page = ROOT / "docs" / "absent.md"
+        text = '[a](GUIDE.md#nowhere) [b](GONE.md) [c](GUIDE.md), "No such section" and [d](GUIDE.md), sections 1 and 99\n\n    [e](GONE.md)\n'
+        self.addCleanup(text_of.cache_clear)
+        globals()["text_of"], kept = (lambda path: text if path == page else kept(path)), text_of
+        self.addCleanup(globals().__setitem__, "text_of", kept)
+        self.assertEqual(list(dead_links(page)), ["GUIDE.md#nowhere", "GONE.md", 'GUIDE.md, "No such section"', "GUIDE.md, section 99"])
+
+
+if __name__ == "__main__":
+    unittest.main()
