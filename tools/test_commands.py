@@ -12,7 +12,7 @@ from kolvunh.explain.calls import FORMS
 # The words that lists have for the variables of the table that are named otherwise there
 NAMES = {"first": "FROM", "last": "TO"}
 
-# `serve` is no command of the top call's table: its words are those of `served_network`.
+# `serve` is no command of the table: its words are `serve_words` of signal_cli.
 SERVE = "serve NET"
 
 

@@ -4,7 +4,7 @@ use board_model::OpenGate;
 use foundation::items::Items;
 use foundation::text::Text;
 use outside_world::{MemoryShelf, MemorySink, MemorySource, SinkFail};
-use signal_cli::{serve, served_network, signal};
+use signal_cli::program;
 use std::alloc::{AllocError, Global};
 use std::sync::Wait;
 use std::thread::Threads;
@@ -55,7 +55,7 @@ impl Ending {
 const INPUT: &str = "stdin";
 
 /// Calls the program with these words over these files, of which `stdin` is its input.
-pub(crate) fn call<R: Threads + Wait + Sync>(
+pub(crate) fn call<R: AllocGlobal + Threads + Wait + Sync>(
     rt: &R,
     alloc: Global,
     words: &[Text],
@@ -67,10 +67,15 @@ pub(crate) fn call<R: Threads + Wait + Sync>(
     let mut shelf = Counted::new(MemoryShelf::new(alloc, files, fetches));
     let mut out = sink(alloc, failing.out)?;
     let mut err = sink(alloc, failing.err)?;
-    let status = match served_network(words) {
-        Some(net) => serve(alloc, net, &mut shelf, &mut source, &mut out, &mut err),
-        None => signal(rt, alloc, words, &mut shelf, &mut out, &mut err, &OpenGate),
-    };
+    let status = program(
+        rt,
+        words,
+        &mut shelf,
+        &mut source,
+        &mut out,
+        &mut err,
+        &OpenGate,
+    );
     Ok(Ending {
         status: status.code(),
         fetches: shelf.calls,

@@ -10,7 +10,7 @@ use std::thread::Threads;
 use std::{io, mem};
 
 /// What differs in a case of some groups; nothing where it is answered as it has to be.
-pub(crate) fn difference<R: Threads + Wait + Sync>(
+pub(crate) fn difference<R: AllocGlobal + Threads + Wait + Sync>(
     rt: &R,
     alloc: Global,
     groups: &[Group],
@@ -25,7 +25,7 @@ pub(crate) fn difference<R: Threads + Wait + Sync>(
 }
 
 /// Calls the program with the words of a case over its files, which the case then no longer has.
-pub(crate) fn call_case<R: Threads + Wait + Sync>(
+pub(crate) fn call_case<R: AllocGlobal + Threads + Wait + Sync>(
     rt: &R,
     alloc: Global,
     case: &mut Case,
@@ -36,7 +36,7 @@ pub(crate) fn call_case<R: Threads + Wait + Sync>(
 }
 
 /// What differs in a case with a fixed answer.
-fn of_answer<R: Threads + Wait + Sync>(
+fn of_answer<R: AllocGlobal + Threads + Wait + Sync>(
     rt: &R,
     alloc: Global,
     case: &mut Case,
@@ -46,7 +46,7 @@ fn of_answer<R: Threads + Wait + Sync>(
 }
 
 /// What differs where what the first call writes is what the second has to write: the case, and the same once more for the second call.
-fn of_replay<R: Threads + Wait + Sync>(
+fn of_replay<R: AllocGlobal + Threads + Wait + Sync>(
     rt: &R,
     alloc: Global,
     case: &mut Case,

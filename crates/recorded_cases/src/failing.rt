@@ -27,7 +27,7 @@ pub(crate) struct Runs {
 
 /// Does a case of some groups with each of its fetches failing in turn, and with each of its puts failing in turn, keeping no byte or
 /// one: each with a put to `err` that is whole and with one that fails; and with this alone.
-pub(crate) fn run_failing<R: Threads + Wait + Sync>(
+pub(crate) fn run_failing<R: AllocGlobal + Threads + Wait + Sync>(
     rt: &R,
     alloc: Global,
     groups: &[Group],
@@ -85,7 +85,7 @@ fn add_puts(ways: &mut Vec<Failing>, puts: u32, with: Failing) -> Result<(), All
 }
 
 /// What differs in a case that fails in this way. Without, this is written to `out`.
-fn of_failing<R: Threads + Wait + Sync>(
+fn of_failing<R: AllocGlobal + Threads + Wait + Sync>(
     rt: &R,
     alloc: Global,
     case: &mut Case,

@@ -89,7 +89,7 @@ fn read_groups(rt: &HostRuntime) -> io::Result<Vec<Group>> {
 }
 
 /// Does the cases of these groups.
-fn do_all<R: Threads + Wait + Sync>(
+fn do_all<R: AllocGlobal + Threads + Wait + Sync>(
     rt: &R,
     alloc: Global,
     groups: &[Group],
@@ -107,7 +107,7 @@ fn do_all<R: Threads + Wait + Sync>(
 }
 
 /// Does the cases of one of these groups.
-fn do_group<R: Threads + Wait + Sync>(
+fn do_group<R: AllocGlobal + Threads + Wait + Sync>(
     rt: &R,
     alloc: Global,
     groups: &[Group],
@@ -127,7 +127,7 @@ fn do_group<R: Threads + Wait + Sync>(
 
 /// What differs in a case, and where calls fail if they have to fail as well; nothing where it ends as it has to. Counts the runs with
 /// such calls.
-fn found_in<R: Threads + Wait + Sync>(
+fn found_in<R: AllocGlobal + Threads + Wait + Sync>(
     rt: &R,
     alloc: Global,
     groups: &[Group],

@@ -1,5 +1,5 @@
-//! The top call: the words of the program, over a shelf of texts and two sinks; the words of `serve`, which has a source besides; and the
-//! words, files and streams of a process, with which either is made.
+//! The top call: the words of the program, over a shelf of texts and two sinks; the program, which serves a source besides; and the
+//! words, files and streams of a process, with which it is called.
 #![tactic(auto)]
 
 mod process;
@@ -21,5 +21,5 @@ pub use planner_jobs::{
 pub use process::run;
 pub use round_jobs::{DecideNodeWork, DecideWork, serve};
 pub use scene_jobs::{NetworkWork, SceneWork, network_job, scene_job};
-pub use serving::served_network;
+pub use serving::program;
 pub use top::signal;

@@ -1,12 +1,10 @@
-//! The program in its process: its arguments, files and streams, passed to `serve` or the top call.
+//! The program in its process: its arguments, files and streams.
 
-use crate::serving::served_network;
-use crate::{Status, signal};
+use crate::{Status, program};
 use board_model::OpenGate;
 use commands::{Refusal, refuse};
 use foundation::text::Text;
-use outside_world::{FileShelf, Shelf, Sink, StreamSink, StreamSource};
-use round_jobs::serve;
+use outside_world::{FileShelf, StreamSink, StreamSource};
 use std::alloc::{AllocError, Global};
 use std::env;
 use std::io::{ErrorKind, Read, Write};
@@ -28,9 +26,8 @@ enum NoWords {
     Memory,
 }
 
-/// Calls `serve` where the arguments of the command line, which `env` gives, are `serve` and a word, and else `signal` with them. It has
-/// the files and threads of `rt`, the stream `input` for the source, these streams for `out` and `err`, and the open gate. The answer is
-/// its status, or 7 where the arguments are refused.
+/// Calls `program` with the arguments of the command line, which `env` gives, over the files and threads of `rt`, the stream `input` for the
+/// source, these streams for `out` and `err`, and the open gate. The answer is its status, or 7 where the arguments are refused.
 ///
 /// docs/FORMATS.md, "Exit statuses and lines of refusal".
 pub fn run<
@@ -49,26 +46,21 @@ pub fn run<
     let mut shelf = FileShelf::new(alloc, rt);
     let mut out = StreamSink::new(out);
     let mut err = StreamSink::new(err);
-    let status = match served_network(&words) {
-        Some(net) => serve_stream(alloc, net, &mut shelf, input, &mut out, &mut err),
-        None => signal(rt, alloc, &words, &mut shelf, &mut out, &mut err, &OpenGate),
+    let status = match StreamSource::new(alloc, input) {
+        Ok(mut source) => {
+            program(
+                rt,
+                &words,
+                &mut shelf,
+                &mut source,
+                &mut out,
+                &mut err,
+                &OpenGate,
+            )
+        }
+        Err(AllocError) => refuse(alloc, Refusal::NoMemory, &mut err),
     };
     ExitCode::from(status.code())
-}
-
-// Serves the network in a file to the requests of a stream.
-fn serve_stream<I: Read + Drop, S: Shelf, O: Sink, E: Sink>(
-    alloc: Global,
-    net: &str,
-    shelf: &mut S,
-    input: I,
-    out: &mut O,
-    err: &mut E,
-) -> Status {
-    match StreamSource::new(alloc, input) {
-        Ok(mut source) => serve(alloc, net, shelf, &mut source, out, err),
-        Err(AllocError) => refuse(alloc, Refusal::NoMemory, err),
-    }
 }
 
 // The arguments of the command line, without the program's name.
