@@ -21,7 +21,7 @@ use Rattle.commands.specs.declared.refusals.Refusal.{Refusal}
 use Rattle.commands.specs.declared.refusals.Refusal.TheVariants as refusal
 use Rattle.commands.specs.declared.refusals.TextPlace.TheVariants.{First, Second, Third}
 use Rattle.round_jobs.specs.Gathering.{HasDecided, HasLine, IsFirstComma, IsOf, IsTextOf, IsTooMuch, OrNoMemory, request_of}
-use Rattle.round_jobs.specs.Requests.{Asks, OfAll, OfNames, OfNext, asked_by, by_names, names_after_end, names_in}
+use Rattle.round_jobs.specs.Requests.{Asks, OfNames, OfNext, asked_by, by_names, names_after_end, names_in}
 use Rattle.round_jobs.specs.declared.requests.Lost.{Lost}
 use Rattle.round_jobs.specs.declared.requests.Lost.TheVariants as lost
 use Rattle.round_jobs.specs.Serving.{IsDecidedFor, IsFirstRefused, IsNodeDecided, IsNodeRefused, IsRefused, IsRefusedFor, IsUnread, IsWhy, NextText, Records}

@@ -1,4 +1,5 @@
 pub mod Decided
 mod GatherLaws
 pub mod NextLaws
+mod Refused
 mod ServeLaws
