@@ -16,13 +16,14 @@ from collections.abc import Iterable, Sequence
 from dataclasses import asdict, dataclass, fields
 from functools import cached_property
 from itertools import accumulate, pairwise
+from os import PathLike
 
-from .arrivals import read_arrivals, require_links
+from .arrivals import Arrival, read_arrivals, require_links
 from .commands import Words, end
 from .faults import Fault
 from .flows import Flow, flows_of_greens, flows_of_queues, parts_of, require_totals
 from .networks import Network, network_faults, read_network
-from .queues import read_queues
+from .queues import Queues, read_queues
 from .records import Place, quote
 from .reports import Green, Records, read_report
 from .signs import lights_of
@@ -302,21 +303,28 @@ def approaches_of(network: Network, named: dict[str, list[str]]) -> dict[str, li
     return approaches
 
 
-def study_of(network: Network, arrivals: Place, report: Place, queues: Place | None = None) -> Study:
-    """The study of a report; with a file of queues the vehicles are taken from there, else they are moved under the report's greens."""
-    read = read_report(report)
-    read.require_network(network, report)
-    flows = flows_of_queues(network, read_queues(queues)) if queues is not None else _flows_under(network, arrivals, read)
+def study_of(
+    network: Network, arrivals: Place | Sequence[Arrival], report: Place | Records, queues: Place | Queues | None = None
+) -> Study:
+    """The study of a report; with queues the vehicles are taken from there, else they are moved under the report's greens. Each is a file or
+    what was read of one."""
+    read, place = (report, "the report") if isinstance(report, Records) else (read_report(report), report)
+    read.require_network(network, place)
+    if queues is None:
+        flows = _flows_under(network, arrivals, read)
+    else:
+        flows = flows_of_queues(network, queues if isinstance(queues, Queues) else read_queues(queues))
     try:
         require_totals(flows, read)
     except Fault as fault:
-        raise Fault(f"{report}: {fault}") from None
+        raise Fault(f"{place}: {fault}") from None
     return Study(network, read, flows)
 
 
-def _flows_under(network: Network, arrivals: Place, read: Records) -> dict[str, Flow]:
-    rows = read_arrivals(arrivals)
-    require_links(network, arrivals, rows)
+def _flows_under(network: Network, arrivals: Place | Sequence[Arrival], read: Records) -> dict[str, Flow]:
+    is_place = isinstance(arrivals, str | PathLike)
+    rows = read_arrivals(arrivals) if is_place else arrivals
+    require_links(network, arrivals if is_place else "the arrivals", rows)
     return flows_of_greens(network, rows, read.greens)
 
 

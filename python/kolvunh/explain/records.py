@@ -182,27 +182,28 @@ def plan_fault(rows: RecordFile, code: str, number: int) -> list[str]:
 
 
 def phases_after(net: NetworkFile, node: int, phase: int, is_only: bool) -> list[tuple[int, int]]:
-    """The nodes and phases of which a row may follow in a fixed plan, after that of this phase of this node, which is its only one so far or not."""
-    found = []
-    while node < len(net.tables_of("node")):
-        phases = net.tables_of("node")[node]["phase"]
-        for further in range(phase + 1, len(phases)):
-            found.append((node, further))
-            if not phases[further].get("skip", False):
-                return found
-        if is_only:
+    """The nodes and phases of which a row may follow in a fixed plan, after that of this phase of this node, which is its only one so far or not.
+
+    Of the first row of a node the phase is -1. As a node has two rows or more, that of a free ring is of any phase but the last.
+    """
+    nodes = net.tables_of("node")
+    if node == len(nodes):
+        return []
+    phases, found = nodes[node]["phase"], []
+    for further in range(phase + 1, len(phases)):
+        found.append((node, further))
+        if not phases[further].get("skip", False):
             return found
-        node, phase = node + 1, -1
-        if node < len(net.tables_of("node")):
-            return [*found, (node, 0)]
-    return found
+    if phase < 0:
+        return found[:-1]
+    return found if is_only else found + phases_after(net, node + 1, -1, False)
 
 
 def next_phases(rows: RecordFile, number: int) -> list[str]:
     """The rows that may stand at this place of a fixed plan, in words."""
     net = rows.net
     if number == 1:
-        found = [(0, 0)]
+        found = phases_after(net, 0, -1, False)
     else:
         before = rows.row(number - 1).fields
         is_only = number == 2 or rows.row(number - 2).fields[0] != before[0]
