@@ -24,7 +24,12 @@ class Arrival:
 
 def read_arrivals(place: Place) -> list[Arrival]:
     """The arrivals in a file, in its order; a row that has not the form of one raises a fault with its line."""
-    rows = rows_of(place, text_of(place), HEADER)
+    return arrivals_of(place, text_of(place))
+
+
+def arrivals_of(place: Place, text: str) -> list[Arrival]:
+    """The arrivals in a text; faults name the place from which it is."""
+    rows = rows_of(place, text, HEADER)
     return [
         Arrival(
             number_in(place, row.line, "the second", row.fields[0]),

@@ -12,7 +12,7 @@ queues that the command `queues` writes the lines between are what the links car
 green. `--from SECOND` and `--to SECOND` draw a window of time, `--title WORDS` has words above the picture, and `greens --ruler`
 the seconds in a line above. Where a link of a node is green in several phases, gives way or is a crossing, and with `--links` at each node,
 `greens` has a line for each link too: `#` is green, `+` green beside a green link to which it gives way, and `-` its yellow, or the seconds in
-which who walks may still be on the crossing. POINTS is a CSV with the header `series,x,y`; of points of one series with one x the mean is drawn,
+which who walks may still be on the crossing. POINTS is a CSV with the header `series,x,y` or `series,x,y,seed`; of points of one series with one x the mean is drawn,
 with a bar of one standard deviation to either side. `table` has the same as numbers; with `--of` it has besides by how many
 hundredths this series is below each other one, point by point in the order of the file: mean, standard deviation, from where to where,
 and at how many points it is above. Nothing here is proved.
@@ -323,13 +323,15 @@ def draw_queues(options: argparse.Namespace) -> str:
 def points_of(place: Place) -> dict[str, dict[float, list[float]]]:
     """The values of each series at each x in a file of points."""
     points: dict[str, dict[float, list[float]]] = defaultdict(lambda: defaultdict(list))
-    for row in rows_of(place, text_of(place), ("series", "x", "y")):
+    text = text_of(place)
+    seed = ("seed",) if text.startswith("series,x,y,seed") else ()
+    for row in rows_of(place, text, ("series", "x", "y", *seed)):
         try:
-            x, y = map(float, row.fields[1:])
+            x, y = map(float, row.fields[1:3])
         except ValueError:
             x = y = math.nan
         if not (math.isfinite(x) and math.isfinite(y)):
-            raise Fault(f"{place}:{row.line}: x and y have to be numbers, and are {quote(','.join(row.fields[1:]))}")
+            raise Fault(f"{place}:{row.line}: x and y have to be numbers, and are {quote(','.join(row.fields[1:3]))}")
         points[row.fields[0]][x].append(y)
     if not points:
         raise Fault(f"{place}: there are no points")

@@ -41,7 +41,7 @@ def columns_of(rows: Sequence[Any]) -> dict[str, tuple[list[Any], str]]:
         numbers = [None if isinstance(value, str) else value for value in values]
         if field.name in THOUSANDTHS.get(type(rows[0]), ()):
             numbers = [None if number is None else number / VEHICLE for number in numbers]
-        is_number = any(number is not None for number in numbers) or "str" not in str(field.type)
+        is_number = any(number is not None for number in numbers) or not any(kind in str(field.type) for kind in ("str", "tuple", "dict"))
         if is_number:
             found[field.name] = numbers, _kind(numbers, str(field.type))
         if not is_number or any(word is not None for word in words):

@@ -8,8 +8,10 @@ import unittest
 from concurrent.futures import ThreadPoolExecutor
 from pathlib import Path
 from tempfile import TemporaryDirectory
+from unittest import mock
 
 from kolvunh.explain import calls, lines_on
+from kolvunh.explain.records import phases_after
 
 from .mistaken_files import TABLE, MisplacedChange, changed, sections, write_mistaken_files
 from .worked import ROOT
@@ -57,6 +59,15 @@ class MistakesTest(unittest.TestCase):
             ("--seed", 'no option "--seed"'),
         ):
             self.assertIn(said, lines_on(words.split(), "signal: usage")[0])
+
+    def test_first_rows_of_a_fixed_plan(self):
+        # docs/RULES.md, "Fixed plan": rows go up the ring from phase 0, leave out marked phases alone, and are two of each node at the least.
+        for marks, first, after in (("uu", [0], [1]), ("muu", [0, 1], [1]), ("mmm", [0, 1], [1, 2])):
+            net = mock.Mock()
+            net.tables_of.return_value = [{"phase": [{"skip": mark == "m"} for mark in marks]}] * 2
+            self.assertEqual(phases_after(net, 0, -1, False), [(0, phase) for phase in first], marks)
+            self.assertEqual(phases_after(net, 0, 0, True), [(0, phase) for phase in after], marks)
+        self.assertEqual(phases_after(net, 0, 1, False), [(0, 2), (1, 0), (1, 1)])
 
     def test_forms_of_the_help(self):
         sections = (ROOT / "tools/help.txt").read_text(encoding="utf-8").split("\n== ")[1:]

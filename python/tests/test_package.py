@@ -7,9 +7,11 @@ import io
 import os
 import subprocess
 import sys
+import tomllib
 import zipfile
 from unittest import mock
 
+import kolvunh
 from kolvunh.__main__ import MODULES
 
 from .worked import EXAMPLES, ROOT, FilesTest
@@ -39,6 +41,12 @@ class PackageTest(FilesTest):
         code = f"import sys; sys.path.insert(0, {str(self.folder / name)!r}); import kolvunh; print(kolvunh.__file__)"
         run = subprocess.run([sys.executable, "-I", "-c", code], capture_output=True, text=True, check=True)
         self.assertTrue(run.stdout.startswith(str(self.folder)), run.stdout)
+
+    def test_types_and_version(self):
+        project = tomllib.loads((PACKAGE / "pyproject.toml").read_text(encoding="utf-8"))["project"]
+        self.assertEqual(kolvunh.__version__, project["version"])
+        self.assertIn("py.typed", [path.name for path in builder().package_files()])
+        self.assertEqual([name for name in kolvunh.__all__ if not hasattr(kolvunh, name)], [])
 
     def command(self, *words):
         """The status, output and error of a command of the package."""

@@ -4,7 +4,9 @@ only pretends."""
 import tomllib
 import unittest
 
-from kolvunh import Fault, compare_seeds, draw, series, sweep
+from kolvunh import Arrival, Fault, compare_seeds, draw, series, sweep
+from kolvunh.networks import network_of
+from kolvunh.reports import Green, Records
 
 from .test_measures import HELD
 from .test_orders import CalledTest
@@ -15,8 +17,9 @@ class SweepTest(CalledTest):
     def test_a_sweep(self):
         files = self.file(NETWORK, "network.toml"), self.file(ARRIVALS, "arrivals.csv")
         said = self.called(sweep.main, *files, "--demands", 1, "--seeds", 2, "--series", "turns", "backward", "actuate:act_step=1,gap=3")
-        row = '"actuate:act_step=1,gap=3",1.0,7.000'
-        self.assertEqual(said.splitlines(), ["series,x,y", *2 * ["turns,1.0,1.000", "backward,1.0,2.000", row]])
+        rows = [("turns", "1.000"), ("backward", "2.000"), ('"actuate:act_step=1,gap=3"', "7.000")]
+        wanted = [f"{series},1.0,{delay},{seed}" for seed in (1, 2) for series, delay in rows]
+        self.assertEqual(said.splitlines(), ["series,x,y,seed", *wanted])
         table = draw.parser_of().parse_args(["table", str(self.file(said, "points.csv")), "--of", "turns"])
         lines = table.draw(table).splitlines()
         self.assertEqual(lines[2:4], ["| `turns` | 1.0 ± 0.0 |", "| `backward` | 2.0 ± 0.0 |"])
@@ -68,6 +71,13 @@ class KeysTest(unittest.TestCase):
         self.assertEqual(tomllib.loads(text)["link"], tomllib.loads(NETWORK)["link"])
         with self.assertRaisesRegex(Fault, "no line of the network is"):
             series.network_text("run = {}\n", {"gap": "4"})
+
+    def test_what_counts_after_a_warm_up(self):
+        # docs/RULES.md, "World": 1000 wait from second 10 on; with green from 12 there are 1000 at moments 11 to 14, and 500 at 15.
+        network = network_of(tomllib.loads(NETWORK))
+        rows, greens = [Arrival(0, "sa", 1000), Arrival(19, "sb", 500)], [Green("a", 1, 12, 40)]
+        delays = [sweep.warm_delay(network, rows, Records(greens=greens), warm) for warm in (0, 13)]
+        self.assertEqual(delays, [4500 / 1500, 1500 / 500])
 
     def test_draws_are_those_of_their_seeds(self):
         rates = {"sa": 0.5}
