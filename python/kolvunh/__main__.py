@@ -8,6 +8,7 @@
     explain WORDS ..          calls the program by the words, and says of a refusal what is wrong and where
     to-log NET REPORT [ARR]   a report as a log of controllers' events
     from-log NET LOG [ARR]    a log of controllers' events as a sheet for `audit`, and as arrivals
+    retime NET ARR [PLAN]     a fixed plan: cycle by Webster, splits by loads, offsets, and a search over draws
     compare-seeds NET ARR ..  controllers, fixed plans among them, over several draws of the vehicles
     sweep NET ARR ..          a network under several demands with several seeds
     orders NET ARR ..         a network in many orders of its nodes, and from which delay to which they come
@@ -32,6 +33,7 @@ MODULES = {
     "page": "page",
     "summary": "summary",
     "compare-seeds": "compare_seeds",
+    "retime": "retime",
     "sweep": "sweep",
     "orders": "orders",
     "districts": "districts.command",
