@@ -1,14 +1,18 @@
 """Tests of the pages: what they lead to is there, each command is listed, and what they count is counted right."""
 
 import re
+import sys
 import unittest
+from collections.abc import Iterator
 from functools import cache
 from pathlib import Path
+from unittest.mock import patch
 
 import definitions
 from crates import ROOT, at_or_below, crate_lines
 
 PAGES = sorted(path for place in (".", "docs", "examples", "bench", "tools/sumo") for path in (ROOT / place).glob("*.md"))
+SOURCES = ("crates/*/src/**/*.rt", "crates/*/specs/*.antt", "tools/*.py", "python/**/*.py", "bench/*.py")
 LINK = re.compile(r"\[[^\]\n]*\]\(([^)\s]+)\)((?:,\s+(?:\"[^\"]+\"|sections?\s+\d+(?:(?:,\s+\d+)*\s+and\s+\d+)?))*)")
 HEADING = re.compile(r"^#+ (.+)$", re.M)
 PLACE = re.compile(r"`((?:crates|docs|tools|python|bench|examples|\.ci)/[\w./-]+)`")
@@ -30,7 +34,7 @@ def headings(page: Path) -> list[str]:
     return [heading.replace("`", "") for heading in HEADING.findall(without_code(text_of(page)))]
 
 
-def dead_links(page: Path):
+def dead_links(page: Path) -> Iterator[str]:
     """The links of a page that lead nowhere, with the sections that are named after them."""
     for target, sections in LINK.findall(without_code(text_of(page))):
         file, _, anchor = target.partition("#")
@@ -46,17 +50,30 @@ def dead_links(page: Path):
             numbers = [number for part in re.findall(r"sections?\s+([\d,\sand]+)", sections) for number in re.findall(r"\d+", part)]
             yield from (f"{target}, section {number}" for number in numbers if not any(name.startswith(f"{number}. ") for name in there))
             names = [re.sub(r"\s+", " ", name) for name in re.findall(r'"([^"]+)"', sections)]
-            yield from (f'{target}, "{name}"' for name in names if name not in (re.sub(r"^\d+\. ", "", other) for other in there) and f"**{name}" not in text_of(path))
+            titles = [re.sub(r"^\d+\. ", "", heading) for heading in there]
+            yield from (f'{target}, "{name}"' for name in names if name not in titles and f"**{name}" not in text_of(path))
 
 
-def dead_places(page: Path):
+def dead_sections(source: str) -> Iterator[str]:
+    """The sections of pages that a source names and that are not there."""
+    text = re.sub(r"\n\s*(?:///?|//!|--|#) ?", " ", source)
+    for page, sections in re.findall(r'docs/(\w+\.md)((?:,? (?:and )?"[^"\n]+")*)', text):
+        path = ROOT / "docs" / page
+        there = [re.sub(r"^\d+\. ", "", heading) for heading in headings(path)] if path.exists() else None
+        if there is None:
+            yield page
+        else:
+            yield from (f'{page}, "{name}"' for name in re.findall(r'"([^"]+)"', sections) if name not in there)
+
+
+def dead_places(page: Path) -> Iterator[str]:
     """The files that a page names and that are not there; a place with a word in capitals stands for several."""
     for place in PLACE.findall(text_of(page)):
         if not re.search(r"\b[A-Z]+\b(?!\.md|\.txt)", place) and not (ROOT / place).exists():
             yield place
 
 
-def dead_definitions(house: definitions.House, page: Path):
+def dead_definitions(house: definitions.House, page: Path) -> Iterator[str]:
     """The definitions that a page names after a file of specs and that are not in it."""
     crate = ""
     for named, file, names in CITED.findall(without_code(text_of(page))):
@@ -88,10 +105,22 @@ class Pages(unittest.TestCase):
             with self.subTest(page=str(page.relative_to(ROOT))):
                 self.assertEqual(list(dead_definitions(house, page)), [])
 
+    def test_sources_lead_to_sections(self):
+        sources = [path for pattern in SOURCES for path in ROOT.glob(pattern) if path != Path(__file__).with_name("test_definitions.py")]
+        dead = {found for path in sources for found in dead_sections(path.read_text(encoding="utf-8"))}
+        self.assertGreater(len(sources), 100)
+        self.assertEqual(dead, set())
+
     def test_commands_are_listed(self):
         listed = text_of(ROOT / "docs/FORMATS.md")
         commands = re.findall(r"^== (\S+)", text_of(ROOT / "tools/help.txt"), re.M)
         self.assertEqual([name for name in commands if not re.search(rf"`(?:\./signal )?{name}[ `]", listed)], [])
+
+    def test_commands_of_the_package_are_told(self):
+        commands = re.findall(r'^    "([\w-]+)": "[\w.]+",$', text_of(ROOT / "python/kolvunh/__main__.py"), re.M)
+        words = {word for page in PAGES for word in re.findall(r"[\w-]+", text_of(page).replace("_", "-"))}
+        self.assertGreater(len(commands), 15)
+        self.assertEqual([name for name in commands if name not in words and name.removeprefix("sumo-") not in words], [])
 
 
 class Counts(unittest.TestCase):
@@ -124,10 +153,10 @@ class Small(unittest.TestCase):
     def test_what_is_found(self):
         page = ROOT / "docs" / "absent.md"
         text = '[a](GUIDE.md#nowhere) [b](GONE.md) [c](GUIDE.md), "No such section" and [d](GUIDE.md), sections 1 and 99\n\n    [e](GONE.md)\n'
-        self.addCleanup(text_of.cache_clear)
-        globals()["text_of"], kept = (lambda path: text if path == page else kept(path)), text_of
-        self.addCleanup(globals().__setitem__, "text_of", kept)
-        self.assertEqual(list(dead_links(page)), ["GUIDE.md#nowhere", "GONE.md", 'GUIDE.md, "No such section"', "GUIDE.md, section 99"])
+        there = text_of(ROOT / "docs" / "GUIDE.md")
+        with patch.object(sys.modules[__name__], "text_of", lambda path: text if path == page else there):
+            self.assertEqual(list(dead_links(page)), ["GUIDE.md#nowhere", "GONE.md", 'GUIDE.md, "No such section"', "GUIDE.md, section 99"])
+        self.assertEqual(list(dead_sections('/// docs/RULES.md, "World" and\n/// "No such rule".')), ['RULES.md, "No such rule"'])
 
 
 if __name__ == "__main__":
