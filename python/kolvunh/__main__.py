@@ -9,6 +9,7 @@
     to-log NET REPORT [ARR]   a report as a log of controllers' events
     from-log NET LOG [ARR]    a log of controllers' events as a sheet for `audit`, and as arrivals
     retime NET ARR [PLAN]     a fixed plan: cycle by Webster, splits by loads, offsets, and a search over draws
+    recommend NET ARR         the keys that suit a network, tried on draws of its arrivals: a network file
     compare-seeds NET ARR ..  controllers, fixed plans among them, over several draws of the vehicles
     sweep NET ARR ..          a network under several demands with several seeds
     orders NET ARR ..         a network in many orders of its nodes, and from which delay to which they come
@@ -33,6 +34,7 @@ MODULES = {
     "page": "page",
     "summary": "summary",
     "compare-seeds": "compare_seeds",
+    "recommend": "recommend",
     "retime": "retime",
     "sweep": "sweep",
     "orders": "orders",

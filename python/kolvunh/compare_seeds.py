@@ -19,7 +19,7 @@ from pathlib import Path
 from .arrivals import read_arrivals, require_links
 from .commands import Words, end
 from .networks import network_faults, read_network
-from .programs import built_program_words, split_words
+from .programs import built_program_words, run, split_words
 from .progress import Progress
 from .records import plural
 from .reports import Totals
@@ -108,6 +108,7 @@ def draws_from(options: argparse.Namespace, form: argparse.ArgumentParser) -> li
     if options.jobs < 1 or not 0 <= options.seeds <= MOST_SEEDS or not 0 < options.demand <= 1000:
         form.error(f"--jobs is above 0, --seeds from 0 to {MOST_SEEDS}, and --demand above 0, up to 1000")
     options.program = options.program or built_program_words()
+    run(["upgrade", options.network], options.program).require_answer()  # what the program refuses is told of this file
     network, files = read_network(options.network), options.arrivals
     arrivals = [read_arrivals(file) for file in files]
     for file, rows in zip(files, arrivals):

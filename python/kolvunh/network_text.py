@@ -10,10 +10,10 @@ from .records import Place
 
 
 def network_text(network: Network) -> str:
-    """The text of the network; keys that a file of its version has not, as `skip` in one without a version, are there only where they say something."""
-    new = network.version is not None and network.version >= 3
+    """The text of the network; `skip` and `weight` are there where the file has a version, or where they say something."""
+    new = network.version is not None
     tables = [*_run_lines(network.run, network.version), *(line for node in network.nodes for line in _node_lines(node, new))]
-    tables += [line for link in network.links for line in _link_lines(link, network.version is not None)]
+    tables += [line for link in network.links for line in _link_lines(link, new)]
     for pair in network.conflicts:
         tables += ["", "[[conflict]]", *_lines({"a": pair.a, "b": pair.b})]
     head = [] if network.version is None else [f"version = {network.version}", ""]

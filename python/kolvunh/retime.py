@@ -17,7 +17,7 @@ from dataclasses import dataclass, field, replace
 from pathlib import Path
 from tempfile import TemporaryDirectory
 
-from .arrivals import read_arrivals
+from .arrivals import arrivals_of, read_arrivals
 from .check_input import link_flows
 from .commands import Words, end
 from .compare_seeds import add_draws, draws_from
@@ -59,12 +59,7 @@ def judge_by_program(scene: Scene, program: Sequence[str], jobs: int) -> Judge:
 
 def judge_by_world(scene: Scene) -> Judge:
     """The same by the world of this package, draw by draw, as long as the sum is below that of `most`."""
-    with TemporaryDirectory() as folder:
-        arrivals = []
-        for draw in scene.draws:
-            file = Path(folder) / "arrivals.csv"
-            file.write_text(draw, encoding="utf-8")
-            arrivals.append(read_arrivals(file))
+    arrivals = [arrivals_of("the draw", draw) for draw in scene.draws]
 
     def judge(plan: Plan, most: float) -> float:
         greens, delay = greens_of_plan(scene.network, rows_of(plan)), 0
