@@ -2,14 +2,18 @@
 
     ./signal check-input NETWORK.toml ARRIVALS.csv [PLAN.csv]
 
-A line for each node, and a line `warning: ..` for each trouble. The load of a link is what comes to its end, carried along the turns, over its
-`sat`; that of a phase is the greatest of its links; and the saturation of a node is the sum of its phases' loads over the part of a cycle that
-is not lost, where each green has its greatest length. Where links are green in several phases, it is written besides for the shortest greens in
-which these let through what comes, at `yield_sat` where they give way. The files are read as right: what the program refuses is explained where it refuses it.
-The status is 1 where there is a warning, and 2 where a file can't be read. Nothing here is proved.
+A line for each node, and a line `warning: ..` for each trouble, the worst first. The load of a link is what comes to its end, carried along the turns,
+over what it lets through in green, which is `yield_sat` where it gives way to one that brings somebody; that of a phase is the greatest of its links;
+and the saturation of a node is the sum of its phases' loads over the part of a cycle that is not lost, where each green has its greatest length.
+Where links are green in several phases, the loads are those of the shortest greens that let through what comes. The files are read as right: what the
+program refuses is explained where it refuses it. With --worst nothing is written but one line on standard error, of the worst, where there is any.
+The status is 1 where there is a warning, 2 where a file can't be read, and with --worst always 0. Nothing here is proved.
 """
 
+import enum
 import itertools
+import shlex
+import sys
 from collections import defaultdict
 from collections.abc import Iterator, Sequence
 from dataclasses import dataclass
@@ -17,6 +21,7 @@ from dataclasses import dataclass
 from .arrivals import VEHICLE, Arrival, read_arrivals, require_links
 from .commands import Words, end
 from .faults import Fault
+from .loads import best_loads, link_flows, rate_in, saturation
 from .networks import GREAT, MOST_SECONDS, Link, Network, Node, Phase, limits_of, network_faults, read_network
 from .plans import PlanRow, read_plan
 from .records import plural, quote
@@ -24,10 +29,25 @@ from .signs import gives_way_in
 
 LANE_MOST, LANE_LEAST = 1000, 100  # thousandths of a vehicle a second that one lane hardly lets through, or hardly so few
 HOUR = 3600
-MOST_PASSES = 1000
-FULL = 0.85  # saturation from which queues grow long
+FULL = 0.895  # saturation, 0.90 as it is written, from which queues grow long
 LEAST_CLEAR = 3  # seconds of all-red in which who is trapped inside a junction leaves it
 MOST_COUNT = 20  # an amount up to this is taken for a count of vehicles
+
+
+class Rank(enum.IntEnum):
+    """How much a finding matters: what can hardly be meant, what makes queues grow, and what may be dangerous or dear on the street."""
+
+    MEANT_OTHERWISE = 0
+    GROWS = 1
+    LOOK_AT = 2
+
+
+@dataclass(frozen=True)
+class Finding:
+    """What may make trouble, with what to write."""
+
+    rank: Rank
+    words: str
 
 
 @dataclass(frozen=True)
@@ -40,104 +60,20 @@ class Inputs:
     plan: Sequence[PlanRow] = ()
 
 
-def link_flows(network: Network, arrivals: Sequence[Arrival]) -> dict[str, float]:
-    """What comes to the end of each link, in thousandths of a vehicle a second, while vehicles enter."""
-    entering = dict.fromkeys((link.name for link in network.links), 0.0)
-    for arrival in arrivals:
-        entering[arrival.link] += arrival.amount
-    seconds = 1 + max((arrival.second for arrival in arrivals), default=0)
-    flows = dict(entering)
-    # Each pass carries the flows one link on; what circles in the network fades, and what never leaves it is cut off.
-    for _ in range(MOST_PASSES):
-        further = dict(entering)
-        for link in network.links:
-            for turn in link.turns:
-                further[turn.exit] += flows[link.name] * turn.share / 1000
-        change = max(abs(further[name] - flows[name]) for name in flows)
-        flows = further
-        if change < 0.001:
-            break
-    return {name: flow / seconds for name, flow in flows.items()}
-
-
-def phase_loads(network: Network, node: Node, flows: dict[str, float]) -> list[float]:
-    """The load of each phase of a node: 1 is all that its fullest link lets through in green all the time."""
-    sat = {link.name: link.sat for link in network.links}
-    return [max((flows[name] / sat[name] for name in phase.links), default=0) for phase in node.phases]
-
-
-def shared_loads(network: Network, node: Node, flows: dict[str, float]) -> list[float]:
-    """The load of each phase where each link is served in all its greens: those of the least sum that let through what comes.
-
-    A link lets `yield_sat` through in a green beside a link to which it gives way, else `sat`. Crossings ask for no more than their phases have.
-    """
-    count = len(node.phases)
-    needs = [[float(place == number) for place in range(count)] + [0.0] for number in range(count)]
-    for link in network.links_to(node.name):
-        if flows[link.name] > 0 and link.walk is None:
-            rates = [_rate(network, link, number) / flows[link.name] for number in range(count)]
-            needs.append([*rates, 1.0])
-    corners = (_solution(rows) for rows in itertools.combinations(needs, count))
-    fitting = [
-        corner
-        for corner in corners
-        if corner and all(sum(rate * load for rate, load in zip(need, corner)) > need[-1] - 1e-9 for need in needs)
-    ]
-    return min(fitting, key=sum)
-
-
-def _rate(network: Network, link: Link, phase: int) -> int:
-    """What a link lets through in a second of a phase."""
-    if phase not in network.greens_of[link.name]:
-        return 0
-    return link.yield_sat if gives_way_in(network, link, phase) else link.sat
-
-
-def _solution(rows: Sequence[Sequence[float]]) -> list[float] | None:
-    """The numbers that solve as many linear equations, each its factors and its sum; None where they are not the only ones."""
-    left = [list(row) for row in rows]
-    for place in range(len(left)):
-        best = max(range(place, len(left)), key=lambda at: abs(left[at][place]))
-        left[place], left[best] = left[best], left[place]
-        if abs(left[place][place]) < 1e-9:
-            return None
-        left[place] = [value / left[place][place] for value in left[place]]
-        for at in range(len(left)):
-            if at != place:
-                left[at] = [value - left[at][place] * own for value, own in zip(left[at], left[place])]
-    return [row[-1] for row in left]
-
-
-def best_loads(network: Network, node: Node, flows: dict[str, float]) -> list[float]:
-    """The loads of its phases, with further greens where it has such."""
-    shares = any(len(network.greens_of[link.name]) > 1 for link in network.links_to(node.name))
-    return shared_loads(network, node, flows) if shares else phase_loads(network, node, flows)
-
-
-def saturation(node: Node, loads: Sequence[float]) -> float:
-    """The sum of the loads over the part of a cycle of greatest greens that is not lost."""
-    cycle = sum(phase.greatest + phase.yellow + phase.clear for phase in node.phases)
-    lost = sum(phase.yellow + phase.clear + phase.loss for phase in node.phases)
-    return sum(loads) * cycle / (cycle - lost)
-
-
 def lane_warnings(inputs: Inputs) -> Iterator[str]:
-    """A `sat` that no lane has: most often one for an hour, or for several lanes. A crossing is no lane."""
+    """A `sat` that no lane has: most often one for an hour, or for several lanes. A crossing is no lane, and nothing waits where a link leads out."""
+    of_sat: dict[int, list[str]] = defaultdict(list)
     for link in inputs.network.links:
-        if link.walk is not None:
-            continue
-        if link.sat > LANE_MOST:
-            yield _high_sat(link)
-        elif link.sat < LANE_LEAST:
-            words = f"{link.sat * HOUR / 1000:g} vehicles an hour: is it one every {1000 / link.sat:g} seconds?"
-            yield f"link {link.name}: sat = {link.sat} is {words} A lane lets some 500 through, which is 1800 an hour"
-
-
-def _high_sat(link: Link) -> str:
-    """A `sat` above what a lane lets through, read as one for an hour."""
-    by_hour = round(link.sat * 1000 / HOUR)
-    words = f"link {link.name}: sat = {link.sat} is {link.sat / 1000:g} vehicles a second, {link.sat * HOUR // 1000} an hour"
-    return f"{words}: if {link.sat} an hour are meant, write sat = {by_hour}; if these are several lanes, some 500 for each"
+        if link.walk is None and link.end is not None and not LANE_LEAST <= link.sat <= LANE_MOST:
+            of_sat[link.sat].append(link.name)
+    for sat, names in of_sat.items():
+        links = f"link{'s' if len(names) > 1 else ''} {_some(names)}: sat = {sat} is"
+        if sat > LANE_MOST:
+            words = f"{links} {sat / 1000:g} vehicles a second, {sat * HOUR // 1000} an hour"
+            yield f"{words}: if {sat} an hour are meant, write sat = {round(sat * 1000 / HOUR)}; if these are several lanes, some 500 for each"
+        else:
+            words = f"{links} {sat * HOUR / 1000:g} vehicles an hour: is it one every {1000 / sat:g} seconds?"
+            yield f"{words} A lane lets some 500 through, which is 1800 an hour"
 
 
 def amount_warnings(inputs: Inputs) -> Iterator[str]:
@@ -146,6 +82,9 @@ def amount_warnings(inputs: Inputs) -> Iterator[str]:
     if amounts and max(amounts) <= MOST_COUNT:
         words = f"all amounts are at most {max(amounts)}, thousandths of a vehicle: if they count vehicles"
         yield f"arrivals: {words}, write {VEHICLE} for each, as {VEHICLE * max(amounts)} for {max(amounts)}"
+    elif amounts and len({arrival.second for arrival in inputs.arrivals}) == 1 and any(amount % VEHICLE for amount in amounts):
+        words = f"all come in second {inputs.arrivals[0].second}, and {amounts[0]} is {amounts[0] / VEHICLE:g} of a vehicle: if these are volumes of an hour"
+        yield f"arrivals: {words}, write a row with {VEHICLE} for each vehicle, in the second in which it comes"
     for link, of_link in itertools.groupby(sorted(inputs.arrivals, key=lambda arrival: arrival.link), lambda arrival: arrival.link):
         most = max(of_link, key=lambda arrival: arrival.amount)
         if most.amount >= 20 * VEHICLE:
@@ -170,21 +109,21 @@ def time_warnings(inputs: Inputs) -> Iterator[str]:
         yield f"arrivals: {words}: {how}"
 
 
-def node_warnings(inputs: Inputs, node: Node) -> Iterator[str]:
-    """What of a node's own times may make trouble."""
-    name, run = node.name, inputs.network.run
-    loads = phase_loads(inputs.network, node, inputs.flows)
+def load_warnings(inputs: Inputs, node: Node) -> Iterator[str]:
+    """A node that has to carry about what it can, or more."""
     full = saturation(node, best_loads(inputs.network, node, inputs.flows))
     if full >= FULL:
-        yield f"{name} is at {full:.2f} of saturation" + (": more comes than can leave" if full >= 1 else ": queues will be long")
-    short = [number for number, phase in enumerate(node.phases) if phase.greatest < run.look + phase.least]
-    if short:
-        phases = ", ".join(map(str, short))
-        wanted = max(run.look + node.phases[number].least for number in short)
-        words = f"{name}: greatest is below look and least together in phase {phases}: a late queue may take two greens"
-        yield f"{words}; write greatest = {wanted}, or a smaller look"
+        yield f"{node.name} is at {full:.2f} of saturation" + (": more comes than can leave" if full >= 1 else ": queues will be long")
+
+
+def phase_warnings(inputs: Inputs, node: Node) -> Iterator[str]:
+    """A phase that serves nobody in its least green, whose wait can't be kept, or that may be left out while somebody waits."""
     yield from wait_warnings(node)
-    yield from green_warnings(node, loads, run.recall is not None)
+    yield from green_warnings(node, best_loads(inputs.network, node, inputs.flows), inputs.network.run.recall is not None)
+
+
+def street_warnings(inputs: Inputs, node: Node) -> Iterator[str]:
+    """What may be dangerous on the street, or serve nobody."""
     yield from crossing_warnings(inputs.network, node)
     yield from merging_warnings(inputs.network, node)
     yield from trapped_warnings(inputs.network, node)
@@ -220,29 +159,63 @@ def green_warnings(node: Node, loads: Sequence[float], has_recall: bool) -> Iter
 
 
 def crossing_warnings(network: Network, node: Node) -> Iterator[str]:
-    """Links without a common green that are no conflict. Where they cross, nothing is proved of them."""
+    """Links that are never green together and in no conflict, though they seem to cross. Where they do, nothing is proved of them."""
     conflicts = {frozenset((pair.a, pair.b)) for pair in network.conflicts}
     found = [
-        f"{a} and {b}"
-        for one, other in itertools.combinations(node.phases, 2)
-        for a, b in itertools.product(one.links, other.links)
-        if frozenset((a, b)) not in conflicts and not network.greens_of[a] & network.greens_of[b]
+        f"{one.name} and {other.name}"
+        for first, second in itertools.combinations(node.phases, 2)
+        for one, other in itertools.product(_links(network, first), _links(network, second))
+        if _may_cross(network, conflicts, one, other, first, second)
     ]
     if found:
-        words = f"in two phases and in no conflict are {_some(found)}"
+        words = f"never green together and in no conflict are {_some(found)}"
         yield f"{node.name}: {words}; for each two that cross write [[conflict]] with a and b"
 
 
+def _links(network: Network, phase: Phase) -> list[Link]:
+    """The links that have their home in a phase, without crossings."""
+    links = (network.link_named(name) for name in phase.links)
+    return [link for link in links if link is not None and link.walk is None]
+
+
+def _may_cross(network: Network, conflicts: set[frozenset[str]], one: Link, other: Link, first: Phase, second: Phase) -> bool:
+    """Whether two links of two phases lead into one exit, or each is in conflict with most other links of the other's phase."""
+    if frozenset((one.name, other.name)) in conflicts or is_one_approach(one, other):
+        return False
+    if network.greens_of[one.name] & network.greens_of[other.name]:
+        return False
+    return _has_common_exit(one, other) or all(
+        2 * sum(frozenset((link.name, each.name)) in conflicts for each in others) > len(others) > 0
+        for link, others in (
+            (one, [link for link in _links(network, second) if link != other]),
+            (other, [link for link in _links(network, first) if link != one]),
+        )
+    )
+
+
+def _has_common_exit(one: Link, other: Link) -> bool:
+    return bool({turn.exit for turn in one.turns} & {turn.exit for turn in other.turns})
+
+
+def is_one_approach(one: Link, other: Link) -> bool:
+    """Whether two links come from one node, or both from outside where the name of one begins with that of the other, as those of a road and its turn."""
+    if one.start is not None or other.start is not None:
+        return one.start == other.start
+    return one.name.startswith(other.name) or other.name.startswith(one.name)
+
+
 def merging_warnings(network: Network, node: Node) -> Iterator[str]:
-    """Links of a network of version 3 that are green together and lead into one exit, where neither gives way to the other."""
+    """Links of a network of version 3 that are green together and of which one leads into an exit of the other alone, where neither gives way."""
     if network.version != 3:
         return
-    found = []
-    for a, b in itertools.combinations(network.links_to(node.name), 2):
-        exits = {turn.exit for turn in a.turns} & {turn.exit for turn in b.turns}
-        gives_way = a.name in b.yields or b.name in a.yields
-        if exits and not gives_way and network.greens_of[a.name] & network.greens_of[b.name]:
-            found.append(f"{a.name} and {b.name}")
+    found = [
+        f"{a.name} and {b.name}"
+        for a, b in itertools.combinations(network.links_to(node.name), 2)
+        if min(len(a.turns), len(b.turns)) == 1
+        and _has_common_exit(a, b)
+        and not (is_one_approach(a, b) or a.name in b.yields or b.name in a.yields)
+        and network.greens_of[a.name] & network.greens_of[b.name]
+    ]
     if found:
         words = f"green together and into one exit are {_some(found)}, and neither gives way"
         yield f"{node.name}: {words}; for each two that cross write yields in one of them, or a [[conflict]] and no common green"
@@ -274,12 +247,17 @@ def _some(found: Sequence[str]) -> str:
 
 
 def plan_warnings(inputs: Inputs) -> Iterator[str]:
-    """Neighbours whose cycles under a fixed plan differ: their greens drift, and no offset holds."""
+    """What is wrong with a fixed plan: a phase with traffic and no row, greens too short for what comes, cycles that differ."""
     cycles: dict[str, int] = defaultdict(int)
+    greens = {(row.node, row.phase): row.green for row in inputs.plan}
     phases: dict[str, tuple[Phase, ...]] = {node.name: node.phases for node in inputs.network.nodes}
     for row in inputs.plan:
         phase = phases[row.node][row.phase]
         cycles[row.node] += row.green + phase.yellow + phase.clear
+    for link in inputs.network.links:
+        node = link.end if link.end in cycles else None
+        if node is not None and inputs.flows[link.name] > 0:
+            yield from _green_warnings(inputs, link, {phase: green for (of, phase), green in greens.items() if of == node}, cycles[node])
     told = set()
     for link in inputs.network.links:
         pair = frozenset((link.start, link.end))
@@ -289,15 +267,37 @@ def plan_warnings(inputs: Inputs) -> Iterator[str]:
             yield f"fixed plan: {words}: their offsets hold in the first cycle alone; write greens that make them alike"
 
 
+def _green_warnings(inputs: Inputs, link: Link, greens: dict[int, int], cycle: int) -> Iterator[str]:
+    """A link that brings somebody and has no green in a fixed plan, or too little."""
+    network, hour = inputs.network, inputs.flows[link.name] * HOUR / VEHICLE
+    node, home = network.phase_of[link.name]
+    on = {phase: green for phase, green in greens.items() if phase in network.greens_of[link.name]}
+    if not on:
+        yield f"fixed plan: {node.name}: phase {home} has no row, and {link.name} brings {hour:.0f} an hour, who wait to the end; write one"
+        return
+    lets = sum(max(0, green - node.phases[phase].loss) * rate_in(network, link, phase, inputs.flows) for phase, green in on.items()) / cycle
+    if inputs.flows[link.name] > lets and link.walk is None:
+        words = f"{link.name} brings {hour:.0f} an hour, and its {sum(on.values())} of {cycle} seconds let {lets * HOUR / VEHICLE:.0f} through"
+        yield f"fixed plan: {node.name}: {words}: its queue grows; write a longer green"
+
+
+def findings(inputs: Inputs) -> list[Finding]:
+    """What may make trouble, the worst first, and of one rank in the order of the network."""
+    nodes = inputs.network.nodes
+    split = "no split: a queue that is longer than what is left of its green gives the green up; write split = true in [run]"
+    ranked = (
+        (Rank.MEANT_OTHERWISE, (*lane_warnings(inputs), *amount_warnings(inputs), *time_warnings(inputs), *plan_warnings(inputs))),
+        (Rank.GROWS, itertools.chain.from_iterable(load_warnings(inputs, node) for node in nodes)),
+        (Rank.GROWS, itertools.chain.from_iterable(phase_warnings(inputs, node) for node in nodes)),
+        (Rank.LOOK_AT, itertools.chain.from_iterable(street_warnings(inputs, node) for node in nodes)),
+        (Rank.LOOK_AT, () if inputs.network.run.split else (split,)),
+    )
+    return sorted((Finding(rank, words) for rank, found in ranked for words in found), key=lambda finding: finding.rank)
+
+
 def warnings(inputs: Inputs) -> list[str]:
-    """All warnings on the files, of the network first."""
-    found = [*lane_warnings(inputs), *amount_warnings(inputs), *time_warnings(inputs)]
-    for node in inputs.network.nodes:
-        found += node_warnings(inputs, node)
-    found += plan_warnings(inputs)
-    if not inputs.network.run.split:
-        found.append("no split: a queue that is longer than what is left of its green gives the green up; write split = true in [run]")
-    return found
+    """The same in words alone."""
+    return [finding.words for finding in findings(inputs)]
 
 
 def require_phases(network: Network, place: str, rows: Sequence[PlanRow]) -> None:
@@ -316,15 +316,23 @@ def inputs_of(network: str, arrivals: str, plan: str | None = None) -> Inputs:
     return Inputs(net, rows, link_flows(net, rows), greens)
 
 
+def say_worst(network: str, arrivals: str, plan: str | None = None) -> None:
+    """Writes the worst of what is found in files to standard error, in a line that says how to see all; nothing where nothing is found."""
+    with network_faults(network):
+        found = warnings(inputs_of(network, arrivals, plan))
+    if found:
+        more = f" (and {len(found) - 1} more)" if len(found) > 1 else ""
+        files = shlex.join(filter(None, (network, arrivals, plan)))
+        print(f"check-input: {found[0]}{more}: ./signal check-input {files}", file=sys.stderr)
+
+
 def load_lines(inputs: Inputs) -> list[str]:
     """A line for each node: the load of each phase, and the saturation."""
     found = []
     for node in inputs.network.nodes:
-        loads = phase_loads(inputs.network, node, inputs.flows)
+        loads = best_loads(inputs.network, node, inputs.flows)
         phases = ", ".join(f"phase {number} {load:.2f}" for number, load in enumerate(loads))
-        best = best_loads(inputs.network, node, inputs.flows)
-        further = f", with further greens {saturation(node, best):.2f}" if best != loads else ""
-        found.append(f"{node.name}: {phases}; saturation {saturation(node, loads):.2f}{further}")
+        found.append(f"{node.name}: {phases}; saturation {saturation(node, loads):.2f}")
     return found
 
 
@@ -334,7 +342,11 @@ def work() -> int:
     parser.add_argument("network", metavar="NET")
     parser.add_argument("arrivals", metavar="ARR")
     parser.add_argument("plan", metavar="PLAN", nargs="?")
+    parser.add_argument("--worst", action="store_true", help="write one line on standard error, of the worst alone")
     options = parser.parse_args()
+    if options.worst:
+        say_worst(options.network, options.arrivals, options.plan)
+        return 0
     with network_faults(options.network):
         inputs = inputs_of(options.network, options.arrivals, options.plan)
         lines, found = load_lines(inputs), warnings(inputs)
@@ -345,3 +357,7 @@ def work() -> int:
 def main() -> None:
     """Runs the command."""
     end(work)
+
+
+if __name__ == "__main__":
+    main()

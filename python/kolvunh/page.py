@@ -14,6 +14,7 @@ from itertools import groupby, pairwise
 from pathlib import Path
 from typing import Any
 
+from .check_input import say_worst
 from .commands import Words, end
 from .faults import Fault
 from .measures import Study, study_of
@@ -107,15 +108,20 @@ def place_of(words: str) -> tuple[str, tuple[float, float]]:
     return name, (x, -y)
 
 
-def answer(words: Sequence[str] | None = None) -> str:
-    """What the command writes."""
+def parser_of() -> Words:
+    """What the command takes."""
     parser = Words(__doc__)
     parser.add_argument("network")
     parser.add_argument("arrivals")
     parser.add_argument("reports", nargs="+", metavar="REPORT", type=report_of)
     parser.add_argument("--title", help="what the page is called (the name of the network's file)")
     parser.add_argument("--place", type=place_of, action="append", default=[], metavar="NODE=X,Y", help="where a node is")
-    options = parser.parse_args(words)
+    return parser
+
+
+def answer(words: Sequence[str] | None = None) -> str:
+    """What the command writes."""
+    options = parser_of().parse_args(words)
     network = read_network(options.network)
     given = dict(options.place)
     strange = set(given) ^ {node.name for node in network.nodes} if given else set()
@@ -134,7 +140,14 @@ def answer(words: Sequence[str] | None = None) -> str:
 
 def main() -> None:
     """Runs the command by the words that the process was called with."""
-    end(lambda: print(answer(), end=""))
+    end(work)
+
+
+def work() -> None:
+    """Writes the page, and the worst of what `check-input` finds."""
+    print(answer(), end="", flush=True)
+    options = parser_of().parse_args()
+    say_worst(options.network, options.arrivals)
 
 
 if __name__ == "__main__":

@@ -10,6 +10,7 @@ from collections.abc import Sequence
 from pathlib import Path
 from tempfile import TemporaryDirectory
 
+from .check_input import say_worst
 from .commands import Words, end
 from .measures import VEHICLE, Measures, Study, quotient, study_of
 from .networks import Network, network_faults, read_network
@@ -80,13 +81,18 @@ def lines_of(network: Network, study: Study) -> list[tuple[str, str]]:
     return lines
 
 
-def answer(words: Sequence[str] | None = None) -> str:
-    """What the command writes."""
+def parser_of() -> Words:
+    """What the command takes."""
     parser = Words(__doc__)
     parser.add_argument("network")
     parser.add_argument("arrivals")
     parser.add_argument("report", nargs="?", help="a report of this network and these arrivals; without one `turns` is run")
-    options = parser.parse_args(words)
+    return parser
+
+
+def answer(words: Sequence[str] | None = None) -> str:
+    """What the command writes."""
+    options = parser_of().parse_args(words)
     with TemporaryDirectory() as folder:
         report = Path(options.report or Path(folder) / "report.csv")
         if not options.report:
@@ -99,7 +105,14 @@ def answer(words: Sequence[str] | None = None) -> str:
 
 def main() -> None:
     """Runs the command by the words that the process was called with."""
-    end(lambda: print(answer(), end=""))
+    end(work)
+
+
+def work() -> None:
+    """Writes the answer, and the worst of what `check-input` finds."""
+    print(answer(), end="", flush=True)
+    options = parser_of().parse_args()
+    say_worst(options.network, options.arrivals)
 
 
 if __name__ == "__main__":

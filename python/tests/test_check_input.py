@@ -2,11 +2,14 @@
 
 import contextlib
 import io
+import itertools
 import sys
 import unittest
 from unittest import mock
 
-from kolvunh.check_input import best_loads, inputs_of, load_lines, main, phase_loads, warnings
+from kolvunh.check_input import inputs_of, is_one_approach, load_lines, main, warnings
+from kolvunh.loads import best_loads, phase_loads
+from kolvunh.networks import Link, Network, Node, Phase, Run
 
 from . import worked
 from .worked import FilesTest
@@ -53,9 +56,6 @@ class CheckInputTest(FilesTest):
         self.assertEqual(self.said(arrivals="second,link,amount\n"), ["arrivals: there are none: nobody enters"])
 
     def test_times_of_a_node(self):
-        said = self.said(QUIET.replace("look = 20", "look = 26"))
-        words = ": greatest is below look and least together in phase 0, 1: a late queue may take two greens; write greatest = 31"
-        self.assertEqual(said, [f"{node}{words}, or a smaller look" for node in "ab"])
         # The longest red of a phase is its own yellow and clear time, and the other's greatest green with those after it: 5 + 35.
         said = self.said(QUIET.replace("wait = 120", "wait = 39", 1))
         words = "a: phase 0: wait = 39 is shorter than the longest red, 40: where no order keeps it, there is no plan; write wait = 41 or more"
@@ -74,7 +74,7 @@ class CheckInputTest(FilesTest):
         words = "a: phase 2: skip = true: a plan may leave it out time after time, and nothing bounds how long its vehicles wait"
         said = self.said(network, STEADY + "0,ta,100\n")
         self.assertEqual(said[0], words + "; write recall or age in [run] or a weight of its links, or leave skip out")
-        crossing = "a: in two phases and in no conflict are sa and ta; for each two that cross write [[conflict]] with a and b"
+        crossing = "a: never green together and in no conflict are sa and ta; for each two that cross write [[conflict]] with a and b"
         self.assertEqual(said[1:], [crossing])
         self.assertEqual(self.said(network), [crossing])
         self.assertEqual(self.said(network.replace("split = true", "split = true\nrecall = 60"), STEADY + "0,ta,100\n"), [crossing])
@@ -93,7 +93,34 @@ class CheckInputTest(FilesTest):
         arrivals = STEADY.replace("sa,100", "sa,200")
         alone, shared = (load_lines(self.inputs(text, arrivals))[0] for text in (QUIET, network))
         self.assertEqual(alone, "a: phase 0 0.40, phase 1 0.40; saturation 1.00")
-        self.assertEqual(shared, "a: phase 0 0.40, phase 1 0.40; saturation 1.00, with further greens 0.50")
+        self.assertEqual(shared, "a: phase 0 0.40, phase 1 0.00; saturation 0.50")
+
+    def test_who_gives_way_in_its_home(self):
+        # Of 50 a second by `left` 100 get through beside `ahead` where somebody comes there, and else 450.
+        times = (5, 30, 3, 2, 2, 120)
+        node = Node("x", (Phase(*times, ("ahead", "left")), Phase(*times, ("side",))))
+        links = (Link("ahead", 9, 500, end="x"), Link("left", 9, 450, end="x", yields=("ahead",), yield_sat=100), Link("side", 9, 500, end="x"))
+        network = Network(Run(5, 30, 1, 4), (node,), links, version=3)
+        for ahead, load in ((100, 50 / 100), (0, 50 / 450)):
+            self.assertEqual(phase_loads(network, node, {"ahead": ahead, "left": 50, "side": 100}), [load, 100 / 500])
+
+    def test_a_phase_without_a_row(self):
+        plan = "node,phase,green,offset\n" + "".join(f"{node},{phase},20,0\n" for node in "ab" for phase in (0, 1) if (node, phase) != ("a", 1))
+        said = "fixed plan: a: phase 1 has no row, and sa brings 360 an hour, who wait to the end; write one"
+        self.assertEqual(self.said(plan=plan)[0], said)
+
+    def test_volumes_of_an_hour(self):
+        said = self.said(arrivals="second,link,amount\n0,sa,850\n0,sb,90\n")
+        words = "arrivals: all come in second 0, and 850 is 0.85 of a vehicle: if these are volumes of an hour, write a row with 1000 for each vehicle"
+        self.assertEqual(said, [words + ", in the second in which it comes"])
+
+    def test_examples_and_one_approach(self):
+        for place in sorted(worked.EXAMPLES.glob("*.toml")):
+            if not place.name.startswith("refused"):
+                self.assertEqual(warnings(inputs_of(place, place.with_suffix(".csv"))), [], place.name)
+        roads = [Link("oak_eb", 9, 500, end="oak"), Link("oak_ebl", 9, 500, end="oak"), Link("elm_eb", 9, 500, "oak", "elm"), Link("bus", 9, 500, "oak", "elm")]
+        alike = {(one.name, other.name) for one, other in itertools.combinations(roads, 2) if is_one_approach(one, other)}
+        self.assertEqual(alike, {("oak_eb", "oak_ebl"), ("elm_eb", "bus")})
 
     def test_who_gives_way_lets_less_through(self):
         inputs = self.real()
@@ -118,7 +145,7 @@ class CheckInputTest(FilesTest):
         self.assertEqual(len(said), 1)
         self.assertIn("green together and into one exit are north_left and south_right, and neither gives way", said[0])
         missing = '[[conflict]]\na = "north"\nb = "east"\n', ""
-        self.assertIn("in no conflict are north and east, north and east_right", warnings(self.real(conflict=missing))[-1])
+        self.assertIn("in no conflict are north and east;", warnings(self.real(conflict=missing))[-1])
 
     def test_a_short_walk(self):
         said = [line for line in warnings(self.real(walk=("walk = 7", "walk = 2"))) if "walk = " in line]
@@ -126,9 +153,11 @@ class CheckInputTest(FilesTest):
         self.assertEqual(said, [words])
 
     def test_cycles_of_neighbours(self):
-        self.assertEqual(self.said(plan=worked.PLAN)[0].split(":")[0], "fixed plan")
         # a has 10 + 5 + 20 + 5 = 40 seconds, b 15 + 5 + 10 + 5 = 35
-        self.assertIn("a has a cycle of 40 seconds and its neighbour b one of 35", self.said(plan=worked.PLAN)[0])
+        said = self.said(plan=worked.PLAN)
+        self.assertIn("a has a cycle of 40 seconds and its neighbour b one of 35", said[1])
+        # Of 15 seconds of green 13 serve: 500 x 13 / 35 = 185.7 thousandths a second, 669 an hour; 200 a second come, 720 an hour.
+        self.assertEqual(said[0], "fixed plan: b: ab brings 720 an hour, and its 15 of 35 seconds let 669 through: its queue grows; write a longer green")
         self.assertEqual(self.said(plan=worked.PLAN.replace("b,0,15,0", "b,0,20,0")), [])
 
     def command(self, *words):
@@ -145,6 +174,13 @@ class CheckInputTest(FilesTest):
         self.assertEqual((status, err), (1, ""))
         self.assertEqual(out.splitlines()[-1].split(":")[:2], ["warning", " no split"])
         self.assertEqual(self.command(self.file(QUIET, "quiet"), arr)[0], 0)
+
+    def test_the_worst(self):
+        arrivals = self.file(STEADY + "20,sa,1\n", "arr")
+        status, out, err = self.command("--worst", self.file(worked.NETWORK, "a net.toml"), arrivals)
+        self.assertEqual((status, out, err.count("\n")), (0, "", 1))
+        self.assertRegex(err, r"check-input: arrivals: 1 of 41 rows come at second 20, .* \(and 1 more\): ./signal check-input '.*a net.toml' '.*arr'")
+        self.assertEqual(self.command("--worst", self.file(QUIET, "quiet"), self.file(STEADY, "steady")), (0, "", ""))
 
     def test_faults_in_one_line(self):
         net, arr = self.file(QUIET, "net"), self.file(STEADY, "arr")
