@@ -6,7 +6,7 @@ needs another, without wrong bodies. What passes is kept on this machine for eac
 program is then crates/signal_program/out/signal_program.
 
 `unproved` compiles it by `rt try`, with checks, and keeps what is linked there: out/unproved/signal. It stops at an index out of bounds, an
-overflow or a broken `prove!`, where the proved program has none, and is some hundred times slower.
+overflow or a broken `prove!`, where the proved program has none, and is some 250 times slower.
 
 A program bears the time at which its making began, so that a file that changes meanwhile is newer. Where another call makes a program in
 the same clone, this one waits for it, and makes none. The exit status is 0 where the program is there, 1 where a crate fails or nothing is
