@@ -102,7 +102,7 @@ class LogsTest(FilesTest):
         self.assertEqual((status, sheet[1:4], told), (0, rows, ""))
         status, sheet, told = self.read(log.replace("27.0,1,22,1", "28.0,1,22,1"), network=OVERLAPS, arrivals=none)
         self.assertEqual((status, sheet[1:4]), (1, rows))
-        self.assertIn("link walk is green from second 25 to 28, which the phases do not make it", told)
+        self.assertIn("link walk is green in seconds 25 to 28, which the phases do not make it", told)
         self.assertIn("crossing walk has 2 s to be over after its walk, and cross is 3", told)
 
     def test_what_is_wrong_is_told_and_in_the_sheet(self) -> None:
@@ -121,6 +121,13 @@ class LogsTest(FilesTest):
         self.assertEqual(sheet[2], "green,,a,1,15,20,")
         gap = LOG.replace("00:00:45.0,1,8,2", "00:01:30.0,1,8,2").replace("00:00:48.0", "00:01:33.0").replace("00:00:50.0", "00:01:35.0")
         self.assertIn("no event for 75 s: a gap, or a clock that steps on, in line 13", self.read(gap)[2])
+
+    def test_a_log_that_begins_and_ends_in_a_green(self) -> None:
+        # Five seconds later the first green of each node has no begin, and the second one of `a`, from 10 on, no end; neither is wrong.
+        log = "\n".join(LOG.splitlines()[:-3])
+        status, sheet, told = self.read(log, "--begin", "2000-01-01 00:00:05")
+        self.assertEqual((status, sheet[1:3]), (0, ["green,,a,1,10,15,", "link,,,sa,1000,1000,500"]))
+        self.assertIn("the log begins in its green, which is no row", told)
 
     def test_two_rings_by_a_map(self) -> None:
         log = "Time,Event Param,event_code,Signal\n" + "".join(
@@ -146,6 +153,8 @@ class LogsTest(FilesTest):
             with self.assertRaises(Fault) as fault:
                 self.read(LOG, "--map", str(self.file(text, "map")))
             self.assertIn(words, str(fault.exception))
+        with self.assertRaisesRegex(Fault, "no event is of second 0 or later: write --begin"):
+            self.read(LOG, "--begin", "2000-01-02 00:00:00")
         with self.assertRaisesRegex(Fault, "--begin is .7:00., and has to be a whole second"):
             self.read(LOG, "--begin", "7:00")
 

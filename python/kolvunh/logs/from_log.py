@@ -45,7 +45,10 @@ class Reading:
     def __init__(self, network: Network, channels: Channels, log: Log, place: str) -> None:
         self.network, self.log, self.place = network, log, place
         self.channels, self.findings = channels, Findings()
-        self.events = [event for event in log.events if event.signal in channels.nodes]
+        self.events = [event for event in log.events if event.signal in channels.nodes and event.tenths >= 0]
+        self.by_signal: dict[str, list[Event]] = defaultdict(list)
+        for event in self.events:
+            self.by_signal[event.signal].append(event)
         self.require_signals()
         self.phases, self.links = by_channel(self.events, PHASES), by_channel(self.events, OVERLAPS)
         self.walks = by_channel(self.events, WALKS)
@@ -56,9 +59,10 @@ class Reading:
         strange = next((event for event in self.log.events if event.signal not in self.channels.nodes), None)
         if strange is not None and (self.channels.is_whole or not self.events):
             known = ", ".join(self.channels.nodes)
-            raise Fault(
-                f"{self.place}:{strange.line}: signal {quote(strange.signal)} is none of {known}: say by --map which node each signal is"
-            )
+            words = f"signal {quote(strange.signal)} is none of {known}: say by --map which node each signal is"
+            raise Fault(f"{self.place}:{strange.line}: {words}")
+        if not self.events:
+            raise Fault(f"{self.place}: no event is of second 0 or later: write --begin, the time stamp of second 0")
 
     def require_phases(self) -> None:
         """Raises a fault, or tells, where a phase is none of a signal's."""
@@ -83,7 +87,7 @@ class Reading:
 
     def rows_of(self, name: str, signal: str) -> list[Green]:
         """The greens of a node."""
-        node, own = self.network.node_named(name), [event for event in self.events if event.signal == signal]
+        node, own = self.network.node_named(name), self.by_signal[signal]
         if not own:
             self.findings.tell(signal, "none", 0, f"node {name}: the log has no event of it")
             return []
@@ -109,10 +113,7 @@ class Reading:
             spells = [spells_of("phase", channel, self.phases[channel], self.findings) for channel in channels if channel in self.phases]
             if spells:
                 stages += [Stage(phase, spell) for spell in union(spells, signal, phase, self.findings)]
-        first = [stage for stage in stages if stage.spell.begin < 0]
-        for stage in first:
-            self.findings.tell(signal, "before", stage.spell.begin, f"phase {stage.phase}: green before second 0, which is left out")
-        return sorted((stage for stage in stages if stage.spell.begin >= 0), key=lambda stage: stage.spell.begin)
+        return sorted(stages, key=lambda stage: stage.spell.begin)
 
     def arrivals(self) -> list[Arrival]:
         """What went over the detectors of links that enter the network."""
@@ -182,7 +183,7 @@ def work(words: Sequence[str] | None = None) -> int:
     told = list(reading.findings.told())
     for signal, tenths, words_of in told:
         print(f"from-log: signal {signal}, {reading.log.stamp(tenths)}: {words_of}", file=sys.stderr)
-    return 1 if told else 0
+    return 1 if reading.findings.are_faults else 0
 
 
 def main() -> None:

@@ -120,19 +120,28 @@ class Rows:
         return f"phase {later.phase} becomes green {when}, and {phase.yellow + phase.clear} s are to be between"
 
 
+def is_same(spell: Spell, begin: int, end: int | None) -> bool:
+    """Whether a spell is one from this second up to that one, but for tenths."""
+    return end is not None and abs(spell.begin - SECOND * begin) < SECOND and abs(spell.end - SECOND * end) < SECOND
+
+
 def tell_links(network: Network, link: Link, rows: Sequence[Green], spells: Sequence[Spell], say: tuple[str, Findings]) -> None:
     """Tells where an overlap or a crossing of a log is green in other seconds than the phases of the log make it."""
     signal, findings = say
     if any(before.end > after.begin for before, after in zip(rows, rows[1:])):
         return  # the rows say no more what the signal shows
-    wanted = [(light.begin, light.end) for light in lights_of(network, link, rows)]
-    shown = [(spell.begin // SECOND, spell.end // SECOND if spell.end is not None else None) for spell in spells]
-    for begin, end in shown:
-        if (begin, end) not in wanted and end is not None:
-            words = f"link {link.name} is green from second {begin} to {end}, which the phases do not make it"
-            findings.tell(signal, "links", SECOND * begin, words)
-    for light in lights_of(network, link, rows):
-        if (light.begin, light.end) not in shown and shown:
+    lights, shown = lights_of(network, link, rows), [spell for spell in spells if spell.end is not None]
+    ends = {light.begin: light.end for light in lights}
+    seen: set[int] = set()
+    for spell in shown:
+        begin = next((at for at in (spell.begin // SECOND, spell.begin // SECOND + 1) if is_same(spell, at, ends.get(at))), None)
+        if begin is None:
+            words = f"link {link.name} is green in seconds {seconds(spell)}, which the phases do not make it"
+            findings.tell(signal, "links", spell.begin, words)
+        else:
+            seen.add(begin)
+    for light in lights:
+        if shown and light.begin not in seen and SECOND * light.begin >= spells[0].begin:
             words = f"link {link.name} is not green from second {light.begin} to {light.end}, as the phases make it"
             findings.tell(signal, "links", SECOND * light.begin, words)
     for spell in spells if link.walk is not None else ():

@@ -10,6 +10,7 @@ from .channels import Channel
 from .events import Code, Event
 
 MOST_TOLD = 5  # of one kind at one signal
+NOTES = frozenset({"begin", "open", "phase", "vehicle"})  # kinds that say how a log was read, and nothing that is wrong in it
 
 
 @dataclass
@@ -32,6 +33,11 @@ class Findings:
         """Adds a line."""
         self.lines.setdefault((signal, kind), []).append((tenths, words))
 
+    @property
+    def are_faults(self) -> bool:
+        """Whether a line says that something is wrong."""
+        return any(kind not in NOTES for _, kind in self.lines)
+
     def told(self) -> Iterator[tuple[str, int, str]]:
         """Signal, moment and words of what is written, and how many more there are of a kind."""
         for (signal, kind), lines in self.lines.items():
@@ -46,6 +52,7 @@ class Spells:
     def __init__(self, channel: Channel, name: str, findings: Findings) -> None:
         self.channel, self.name, self.findings = channel, name, findings
         self.found: list[Spell] = []
+        self.began = False  # whether the end of a green was told that began before the log
         self.changed: int | None = None  # when the yellow or the red clearance that is on began
         self.is_clear = False
 
@@ -64,8 +71,10 @@ class Spells:
         """Ends the green that is on, where there is one."""
         spell = self.found[-1] if self.found else None
         if spell is None or spell.end is not None:
-            if spell is not None:
-                self.tell("no begin", tenths, "its green ends, and its begin is not in the log")
+            kind, words = ("begin", "the log begins in its green, which is no row") if spell is None else ("no begin", "its green has no begin in the log")
+            if spell is not None or not self.began:
+                self.tell(kind, tenths, words)
+            self.began = True
             return None
         spell.end = tenths
         return spell
