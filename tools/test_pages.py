@@ -111,6 +111,16 @@ class Pages(unittest.TestCase):
         self.assertGreater(len(sources), 100)
         self.assertEqual(dead, set())
 
+    def test_names_of_code(self):
+        """Names between backticks on the pages that speak of code alone; that of the kit is in no file."""
+        files = [path for pattern in ("crates/*/*/**/*.rt", "crates/*/*/**/*.antt", "tools/*.py", "python/**/*.py") for path in ROOT.glob(pattern)]
+        there = {word for path in files for word in re.findall(r"\w+", path.read_text(encoding="utf-8"))}
+        for name in ("DECISIONS", "DESIGN", "MAP", "PROVED", "RULES"):
+            page = without_code(text_of(ROOT / f"docs/{name}.md")).replace("`rattle-kit-13f logic dac8208d650f15bf`", "")
+            words = {word for span in re.findall(r"`([^`]+)`", page) for word in re.findall(r"\b[A-Za-z]\w*[A-Za-z\d]\b", span)}
+            with self.subTest(page=name):
+                self.assertEqual(sorted(words - there), [])
+
     def test_commands_are_listed(self):
         listed = text_of(ROOT / "docs/FORMATS.md")
         commands = re.findall(r"^== (\S+)", text_of(ROOT / "tools/help.txt"), re.M)
