@@ -20,6 +20,7 @@ signal_program may_wait=1: low   # the program
 
 # What stands for rt: `try` leaves a program where rt links it, and `ci` builds one of what it finds; each notes that it was called.
 RT = """#!/bin/sh
+[ "$1" = --version ] && exit
 echo "$1" >> "$CALLS"
 program='#!/bin/sh
 echo "KIND $*"
@@ -61,7 +62,7 @@ class SignalTest(unittest.TestCase):
                 self.write(f"crates/{crate}/{part}/file", "")
         self.write("crates.txt", CRATES)
         self.write("HANDLES", "Handles allowed: none.\n")
-        for name in ("signal", "tools/help.txt", "tools/build_program.py", "tools/crates.py"):
+        for name in ("signal", "tools/help.txt", "tools/build_program.py", "tools/crates.py", "tools/sources.py"):
             (self.root / name).parent.mkdir(exist_ok=True)
             shutil.copy(ROOT / name, self.root / name)
         self.write("bin/rt", RT).chmod(0o755)
@@ -126,7 +127,10 @@ class SignalTest(unittest.TestCase):
         self.assertCountEqual(files, ["./HANDLES", "./crates.txt", *wanted])
         self.assertEqual(self.call("plan", "x"), (3, "proved plan x\n", "own line\n"))
         self.assertEqual(self.call("--proved", "plan", "x"), (3, "proved plan x\n", "own line\n"))
-        self.assertEqual(self.call("--build"), (0, "", ""))
+        status, out, err = self.call("--build")
+        self.assertEqual((status, out, err.count("\n")), (0, "", 1))
+        self.assertRegex(err, r"^signal: proved: 2 files of 2 crates with the sum [0-9a-f]{64}, by ")
+        self.assertRegex(self.call("--version")[1], r"^kolvunh .*: proved$")
         self.assertEqual(self.called(), ["ci"])
         self.write("crates/low/src/file", "changed")
         self.assertEqual(self.call("plan", "x")[1], "unproved plan x\n")

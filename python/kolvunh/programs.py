@@ -47,9 +47,10 @@ def program_words() -> list[str]:
 
 
 def built_program_words() -> list[str]:
-    """The same for many calls: the program that is built in the repository before ./signal, which looks each time whether it is current."""
-    built = Path(__file__).resolve().parents[2] / "crates/signal_program/out/signal_program"
-    return [str(built)] if not os.environ.get(VARIABLE) and built.is_file() else program_words()
+    """The same for many calls: the program that a release has or that is built in the repository before ./signal, which looks each time whether it is current."""
+    root = Path(__file__).resolve().parents[2]
+    built = next((path for path in (root / "bin/signal_program", root / "crates/signal_program/out/signal_program") if path.is_file()), None)
+    return [str(built)] if built and not os.environ.get(VARIABLE) else program_words()
 
 
 @dataclass(frozen=True)
