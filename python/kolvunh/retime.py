@@ -135,16 +135,14 @@ def neighbour(plan: Plan, draw: random.Random) -> Plan:
 
 
 def beginnings(scene: Scene, given: Plan | None) -> Iterator[Plan]:
-    """The plans from which the search goes on: the one that is given, or that of Webster's cycle, and both with other cycles."""
+    """The plans from which the search goes on: the one that is given, that of Webster's cycle, and both with other cycles."""
     first, weights = first_plan(scene.network, scene.flows)
-    if given:
-        yield given
-        weights = {timing.node.name: weights_of(timing) for timing in given}
-    base = given or first
-    cycle = max(timing.cycle for timing in base)
-    yield first
-    for factor in FACTORS:
-        yield scaled(scene.network, base, weights, round(factor * cycle), scene.flows)
+    bases = [(given, {timing.node.name: weights_of(timing) for timing in given})] if given else []
+    bases.append((first, weights))
+    yield from (base for base, _ in bases)
+    for base, of_phases in reversed(bases):
+        cycle = max(timing.cycle for timing in base)
+        yield from (scaled(scene.network, base, of_phases, round(factor * cycle), scene.flows) for factor in FACTORS)
 
 
 def search(scene: Scene, judge: Judge, given: Plan | None, options: argparse.Namespace) -> tuple[float, Search]:

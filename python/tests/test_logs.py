@@ -3,7 +3,7 @@
 import contextlib
 import io
 
-from kolvunh import Fault
+from kolvunh import Fault, run
 from kolvunh.arrivals import read_arrivals
 from kolvunh.logs import from_log, to_log
 from kolvunh.logs.events import moment_of, read_log
@@ -11,6 +11,7 @@ from kolvunh.networks import read_network
 from kolvunh.reports import Records
 
 from .test_measures import HELD
+from .test_mistakes import program
 from .test_signs import NETWORK as OVERLAPS
 from .test_signs import ROWS
 from .worked import ARRIVALS, NETWORK, FilesTest
@@ -69,6 +70,20 @@ BAD_MAPS = (
     (MAP.replace("detector,9", "walk,9"), ':6: link "sa" has no `walk`'),
     (MAP.replace("phase,2", "phase,two"), ':3: the number is "two", and has to be a whole number'),
 )
+# Reports and arrivals that no log is written of: what the held report or the arrivals have in place of something, and what is said
+BAD_REPORTS = (
+    (HELD, "", "the file is empty"),
+    ("kind,round", "kind,turn", 'the header is "kind,turn,node'),
+    ("green,,a,0,0,10,", "green,,a,0,0,10", ":2: the row has 6 fields, and has to have 7"),
+    ("green,,a,0,0,10,", "red,,a,0,0,10,", ':2: the kind is "red", and has to be one of step'),
+    ("green,,a,0", "green,,a,one", ':2: phase of a green is "one", and has to be a whole number'),
+    ("green,,a,0,0", "green,,c,0,0", 'a green is of node "c", which the network has not'),
+    ("green,,a,0,0", "green,,a,2,0", 'a green is of phase 2 of node "a", which has 2 phases'),
+    ("link,,,xb", "link,,,xc", "its links are not those of the network"),
+    ("total,", "total,,,1,0,1,0\ntotal,", "there are 2 records `total`, and has to be one"),
+    ("0,sa,1000", "0,sx,1000", 'link "sx" is none of the network'),
+    ("0,sa,1000", "0,sa,", 'the amount is "", and has to be a whole number'),
+)
 
 
 class LogsTest(FilesTest):
@@ -110,6 +125,9 @@ class LogsTest(FilesTest):
             status, sheet, told = self.read(LOG.replace(there, here))
             self.assertEqual((status, there, sheet[1].split(",")[5]), (1, there, str(end)))
             self.assertIn(words, told)
+            if program():
+                words = ["audit", self.folder / "net", self.folder / "arr", self.file("\n".join(sheet), "sheet")]
+                self.assertRegex(run(words, [program()]).text, "^rejected (span|next) a [12]\n$")
 
     def test_gaps_and_ends(self) -> None:
         # 30 seconds of green, 5 of yellow and red clearance and 30 of `look` are no gap, 70 are one.
@@ -152,6 +170,11 @@ class LogsTest(FilesTest):
         for text, words in BAD_MAPS:
             with self.assertRaises(Fault) as fault:
                 self.read(LOG, "--map", str(self.file(text, "map")))
+            self.assertIn(words, str(fault.exception))
+        for there, here, words in BAD_REPORTS:
+            texts = (NETWORK, HELD.replace(there, here), ARRIVALS.replace(there, here))
+            with self.assertRaises(Fault) as fault:
+                to_log.answer([str(self.file(text, name)) for text, name in zip(texts, ("net", "report", "arr"))])
             self.assertIn(words, str(fault.exception))
         with self.assertRaisesRegex(Fault, "no event is of second 0 or later: write --begin"):
             self.read(LOG, "--begin", "2000-01-02 00:00:00")
