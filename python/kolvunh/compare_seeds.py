@@ -1,10 +1,10 @@
 """Compares controllers over several draws of the vehicles, with the spread of each: plans, actuated control, fixed plans.
 
-    ./signal compare-seeds NET ARR [ARR ..] [--series NAME ..] [--seeds N] [--demand X] [--csv]
+    ./signal compare-seeds NET ARR [ARR ..] [--series NAME ..] [--seeds N] [--first N] [--demand X] [--csv]
 
 Of one file of arrivals N draws are made, as `sweep` makes them: in each second a link gets a vehicle with the probability that ARR has on the
-average, times X. Several files, and one with `--seeds 0`, are taken as they are. A series is `turns`, `actuate`, `fixed:plan=FILE` or another
-one of kolvunh.series; each is set against the first one, draw by draw. Nothing here is proved.
+average, times X; `--first` says which draw is the first one. Several files, and one with `--seeds 0`, are taken as they are. A series is `turns`,
+`actuate`, `fixed:plan=FILE` or another one of kolvunh.series; each is set against the first one, draw by draw. Nothing here is proved.
 """
 
 import argparse
@@ -98,6 +98,7 @@ def csv_text(found: dict[str, list[Totals]]) -> str:
 def add_draws(words: argparse.ArgumentParser, seeds: int) -> None:
     """Adds what says of which vehicles the runs are, and how they are run."""
     words.add_argument("--seeds", type=int, default=seeds, metavar="N", help=f"how many draws of one file ({seeds}); 0 takes it as it is")
+    words.add_argument("--first", type=int, default=1, metavar="N", help="the number of the first draw (1)")
     words.add_argument("--demand", type=float, default=1.0, metavar="X", help="times what the file brings (1)")
     words.add_argument("--jobs", type=int, default=os.cpu_count(), help="how many runs go side by side")
     words.add_argument("--program", type=split_words, help="its words before the command; the built program if left out")
@@ -115,7 +116,7 @@ def draws_from(options: argparse.Namespace, form: argparse.ArgumentParser) -> li
         require_links(network, file, rows)
     if len(files) > 1 or options.seeds == 0:
         return [Path(file).read_text(encoding="utf-8") for file in files]
-    return draws_of(arrivals[0], network.run.known_seconds, options.demand, range(1, options.seeds + 1))
+    return draws_of(arrivals[0], network.run.known_seconds, options.demand, range(options.first, options.first + options.seeds))
 
 
 def answer(words: Sequence[str] | None = None) -> str:
