@@ -8,107 +8,37 @@ taken from what the command `queues` wrote. What each measure means, with its un
 """
 
 import argparse
-import csv
-import io
 import math
-import statistics
 from collections.abc import Iterable, Sequence
-from dataclasses import asdict, dataclass, fields
+from dataclasses import asdict, dataclass
 from functools import cached_property
 from itertools import accumulate, pairwise
 from os import PathLike
 
-from .arrivals import Arrival, read_arrivals, require_links
+from .arrivals import VEHICLE, Arrival, read_arrivals, require_links
 from .commands import Words, end
 from .faults import Fault
 from .flows import Flow, flows_of_greens, flows_of_queues, parts_of, require_totals
-from .networks import Network, network_faults, read_network
+from .measure_tables import csv_text, table_text
+from .measure_values import Lengths, Measures, level_of, percentile, quotient
+from .networks import Link, Network, network_faults, read_network
 from .queues import Queues, read_queues
 from .records import Place, quote
 from .reports import Green, Records, read_report
-from .signs import lights_of
+from .signs import Light, lights_of
 
-# Highway Capacity Manual, signalized junctions: seconds a vehicle, at most
-LEVELS = ((10, "A"), (20, "B"), (35, "C"), (55, "D"), (80, "E"))
 KINDS = ("network", "node", "phase", "approach", "link", "movement")
-VEHICLE = 1000  # thousandths
-
-
-def level_of(delay: float | None) -> str | None:
-    """The level of service of a delay in seconds a vehicle."""
-    return None if delay is None else next((level for most, level in LEVELS if delay <= most), "F")
-
-
-def percentile(values: Sequence[float], part: int) -> float:
-    """The least of the values that at least so many hundredths of them do not exceed."""
-    return sorted(values)[max(0, math.ceil(part * len(values) / 100) - 1)] if values else 0
-
-
-def quotient(amount: float, of: float) -> float | None:
-    """The quotient, or None where it has none."""
-    return amount / of if of else None
-
-
-@dataclass(frozen=True)
-class Lengths:
-    """How many spans there are, and how long: mean, least and greatest in seconds, None where there is none."""
-
-    count: int
-    mean: float | None
-    least: int | None
-    most: int | None
-
-    @classmethod
-    def of(cls, seconds: Sequence[int]) -> "Lengths":
-        """Those of spans that last so many seconds."""
-        return cls(len(seconds), statistics.mean(seconds), min(seconds), max(seconds)) if seconds else cls(0, None, None, None)
-
-
-@dataclass(frozen=True)
-class Measures:
-    """The measures of a part of a network from second `begin` up to second `end`: docs/FORMATS.md, "Measures".
-
-    Vehicles, queues and stops are in vehicles, times in seconds, shares from 0 to 1. None stands where a measure has no meaning: a mean of
-    no vehicles, plans of a link.
-    """
-
-    kind: str
-    name: str
-    begin: int
-    end: int
-    vehicles: float
-    left: float
-    delay: float
-    delay_each: float | None
-    level: str | None
-    trip_delay: float | None
-    stopped: float
-    queue_50: float
-    queue_95: float
-    queue_most: float
-    greens: int
-    failures: int
-    on_green: float | None
-    platoon_ratio: float | None
-    green_mean: float | None
-    green_least: int | None
-    green_most: int | None
-    cycle_mean: float | None
-    cycle_least: int | None
-    cycle_most: int | None
-    dark: int
-    plans: int | None
-    none: int | None
-
 
 @dataclass(frozen=True)
 class Part:
-    """A part of a network: its name, its links and the phases of its signals; of a movement the turn of its link, by its place from 0."""
+    """A part of a network: its name, its links and the phases of its signals; of a movement the turn of its link, by its place from 0; and where
+    it is a link, or a movement of one, that link."""
 
     name: str
     links: list[str]
     phases: list[tuple[str, int]]
     turn: int | None = None
+    single: str | None = None
 
 
 @dataclass
@@ -149,14 +79,40 @@ class Study:
         return greens
 
     @cached_property
+    def lights(self) -> dict[str, list[Light]]:
+        """For each link that ends at a node all its greens, in the order of time."""
+        rows = self.report.greens_of()
+        return {link.name: lights_of(self.network, link, rows.get(link.end, ())) for link in self.network.links if link.end}
+
+    @cached_property
+    def lets(self) -> dict[str, list[int]]:
+        """For each link that ends at a node what its greens let through in the first n seconds: the seconds that a queue loses let nothing through,
+        and those in which one is busy to which it gives way let `yield_sat` through."""
+        return {name: [0, *accumulate(self._rates(self.network.link_named(name), lights))] for name, lights in self.lights.items()}
+
+    def _rates(self, link: Link, lights: Sequence[Light]) -> list[int]:
+        """What a link lets through in each second."""
+        rates = [0] * self.end
+        for light in lights:
+            for second in range(light.begin, min(light.end, self.end)):
+                if second not in light.lost:
+                    rates[second] = link.yield_sat if any(self._is_busy(other, second) for other in link.yields) else link.sat
+        return rates
+
+    def _is_busy(self, name: str, second: int) -> bool:
+        """Whether a link is green in a second and something waits there."""
+        lit, flow = self.green_seconds[name], self.flows[name]
+        return lit[second + 1] > lit[second] and flow.reached(second + 1) > flow.left[second]
+
+    @cached_property
     def green_seconds(self) -> dict[str, list[int]]:
         """For each link that ends at a node in how many of the first n seconds it is green, in all its greens."""
-        rows, seconds = self.report.greens_of(), {}
-        for link in (link for link in self.network.links if link.end):
+        seconds = {}
+        for name, lights in self.lights.items():
             lit = [0] * self.end
-            for light in lights_of(self.network, link, rows.get(link.end, ())):
+            for light in lights:
                 lit[light.begin : light.end] = [1] * (min(light.end, self.end) - light.begin)
-            seconds[link.name] = [0, *accumulate(lit)]
+            seconds[name] = [0, *accumulate(lit)]
         return seconds
 
     def phase_of(self, link: str) -> tuple[str, int]:
@@ -188,28 +144,48 @@ class Study:
         amount = flow.left[second + 1] - flow.left[second]
         return parts_of(flow.link, amount)[turn] / amount
 
-    def is_failure(self, link: str, green: Green) -> bool:
-        """Whether a queue stands at the end of a link from the begin of a green to its end."""
-        return all(self.flows[link].queue[green.begin : green.end + 1])
-
-    def links_in_green(self, green: Green, links: Sequence[str]) -> list[str]:
-        """Which of these links have green in the phase of a green."""
-        return [link for link in links if self.phase_of(link) == (green.node, green.phase)]
+    def is_failure(self, link: str, begin: int, end: int) -> bool:
+        """Whether a queue stands at the end of a link from one moment to another."""
+        return all(self.flows[link].queue[begin : end + 1])
 
     def greens_in(self, phases: Iterable[tuple[str, int]], begin: int, end: int) -> list[Green]:
         """The greens of these phases that end in an interval."""
         return [green for phase in phases for green in self.greens[phase] if begin < green.end <= end]
 
-    def cycles_in(self, phases: Sequence[tuple[str, int]], begin: int, end: int) -> list[int]:
-        """The seconds from each green of a phase to its next, where that begins in an interval; of unmarked phases, where there are any."""
-        marked = {phase for phase in phases if self.network.node_named(phase[0]).phases[phase[1]].skip}
-        counted = [phase for phase in phases if phase not in marked] or phases
-        pairs = (pair for phase in counted for pair in pairwise(self.greens[phase]))
-        return [after.begin - before.begin for before, after in pairs if begin < after.begin <= end]
+    def spans(self, part: Part, begin: int, end: int) -> list[tuple[int, int, list[str]]]:
+        """The greens of a part that end in an interval, each from and to, with its links; of a single link all its greens, and else those of its phases.
 
-    def dark_in(self, phase: tuple[str, int], begin: int, end: int) -> int:
-        """The most seconds of an interval in which a phase is without green, one after another."""
-        bounds = [(max(begin, green.begin), min(end, green.end)) for green in self.greens[phase] if green.begin < end and begin < green.end]
+        Of a link without any the greens of that phase of its node count which has the most of them: so it may fail once in each cycle.
+        """
+        single = part.single
+        found = [(light.begin, light.end, [single]) for light in self.lights[single] if begin < light.end <= end] if single else [
+            (green.begin, green.end, [link for link in part.links if self.phase_of(link) == (green.node, green.phase)])
+            for green in self.greens_in(part.phases, begin, end)
+        ]  # fmt: skip
+        for node, number in part.phases:
+            unserved = [link for link in part.links if self.phase_of(link) == (node, number) and self._is_dark(link, begin, end)]
+            if unserved:
+                others = [self.greens_in([phase], begin, end) for phase in self.greens if phase[0] == node]
+                found += [(green.begin, green.end, unserved) for green in max(others, key=len)]
+        return found
+
+    def _is_dark(self, link: str, begin: int, end: int) -> bool:
+        """Whether a link has no green in an interval."""
+        return self.green_seconds[link][end] == self.green_seconds[link][begin]
+
+    def cycles_in(self, part: Part, begin: int, end: int) -> list[int]:
+        """The seconds from each green of a phase to its next, where that begins in an interval; of unmarked phases, where there are any."""
+        if part.single:
+            rows = [[light.begin for light in self.lights[part.single]]]
+        else:
+            marked = {phase for phase in part.phases if self.network.node_named(phase[0]).phases[phase[1]].skip}
+            counted = [phase for phase in part.phases if phase not in marked] or part.phases
+            rows = [[green.begin for green in self.greens[phase]] for phase in counted]
+        return [after - before for row in rows for before, after in pairwise(row) if begin < after <= end]
+
+    def dark_in(self, greens: Sequence[Green | Light], begin: int, end: int) -> int:
+        """The most seconds of an interval that are in none of these greens, one after another."""
+        bounds = [(max(begin, green.begin), min(end, green.end)) for green in greens if green.begin < end and begin < green.end]
         return max(after[0] - before[1] for before, after in pairwise([(begin, begin), *bounds, (end, end)]))
 
     def plans_in(self, nodes: set[str], begin: int, end: int) -> tuple[int, int] | tuple[None, None]:
@@ -222,35 +198,60 @@ class Study:
 
     def measures(self, kind: str, part: Part, begin: int, end: int) -> Measures:
         """The measures of a part of the network of this kind."""
-        tally, links, phases = Tally(), part.links, part.phases
+        tally, walkers, links = Tally(), Tally(), part.links
         for link in links:
-            tally.add(self.tally(link, begin, end, part.turn))
-        queue = [sum(each) for each in zip(*(self.flows[link].queue[begin + 1 : end + 1] for link in links))]
-        greens = self.greens_in(phases, begin, end)
-        failures = sum(any(self.is_failure(link, green) for link in self.links_in_green(green, links)) for green in greens)
-        lit, cycles = Lengths.of([green.seconds for green in greens]), Lengths.of(self.cycles_in(phases, begin, end))
-        nodes = {node for node, _ in phases}
-        plans = self.plans_in(nodes, begin, end) if kind in ("node", "network") else (None, None)
-        each = quotient(tally.delay / VEHICLE, tally.vehicles / VEHICLE)
+            (tally if self.network.link_named(link).walk is None else walkers).add(self.tally(link, begin, end, part.turn))
+        both = Tally()
+        both.add(tally)
+        both.add(walkers)
+        roads = [link for link in links if self.network.link_named(link).walk is None]
+        queue = [sum(each) for each in zip(*(self.flows[link].queue[begin + 1 : end + 1] for link in roads or links))]
+        spans = self.spans(part, begin, end)
+        failures = sum(any(self.is_failure(link, first, last) for link in of) for first, last, of in spans)
+        lit, cycles = Lengths.of(self.lengths(part, begin, end)), Lengths.of(self.cycles_in(part, begin, end))
+        plans = self.plans_in({node for node, _ in part.phases}, begin, end) if kind in ("node", "network") else (None, None)
+        each, capacity, ratio = quotient(tally.delay, tally.vehicles), *self.capacity(part, roads, begin, end)
         trips = self.entries(begin, end) if kind == "network" else 0
         return Measures(
             kind, part.name, begin, end,
-            tally.vehicles / VEHICLE, tally.left / VEHICLE, tally.delay / VEHICLE, each, level_of(each), quotient(tally.delay, trips),
+            tally.vehicles / VEHICLE, tally.left / VEHICLE, tally.delay / VEHICLE, each,
+            level_of(each, ratio if kind in ("link", "movement") else None), quotient(tally.delay, trips),
             tally.stopped / VEHICLE,
             *(percentile(queue, hundredths) / VEHICLE for hundredths in (50, 95, 100)),
-            lit.count, failures, quotient(tally.on_green, tally.vehicles), quotient(tally.on_green, tally.expected),
+            len(spans), failures, quotient(both.on_green, both.vehicles), quotient(both.on_green, both.expected),
             lit.mean, lit.least, lit.most, cycles.mean, cycles.least, cycles.most,
-            max(self.dark_in(phase, begin, end) for phase in phases), *plans,
+            max(self.dark_in(greens, begin, end) for greens in self.greens_of(part)), *plans, capacity, ratio,
+            walkers.vehicles / VEHICLE, walkers.delay / VEHICLE, quotient(walkers.delay, walkers.vehicles),
         )  # fmt: skip
 
+    def greens_of(self, part: Part) -> Sequence[Sequence[Green | Light]]:
+        """The greens of a single link, or of each phase of a part."""
+        return [self.lights[part.single]] if part.single else [self.greens[phase] for phase in part.phases]
+
+    def lengths(self, part: Part, begin: int, end: int) -> list[int]:
+        """How long the greens of a part are that end in an interval."""
+        return [green.end - green.begin for greens in self.greens_of(part) for green in greens if begin < green.end <= end]
+
+    def capacity(self, part: Part, links: Sequence[str], begin: int, end: int) -> tuple[float, float | None]:
+        """What these links let through in an interval, in vehicles, and the greatest of their ratios of what comes to that."""
+        lets = {link: self.lets[link][end] - self.lets[link][begin] for link in links}
+        comes = {link: self.flows[link].reached(end) - self.flows[link].reached(begin) for link in links}
+        served = {link: comes[link] / lets[link] if lets[link] else math.inf for link in links if comes[link]}
+        ratio = max(served.values(), default=None)
+        return sum(lets.values()) / VEHICLE, ratio
+
     def entries(self, begin: int, end: int) -> int:
-        """What entered the network from outside in an interval, in thousandths of a vehicle."""
-        flows = (flow for flow in self.flows.values() if flow.link.start is None)
+        """What entered the network from outside in an interval, in thousandths of a vehicle; nobody who walks."""
+        flows = (flow for flow in self.flows.values() if flow.link.start is None and flow.link.walk is None)
         return sum(flow.entered[end] - flow.entered[begin] for flow in flows)
 
-    def part(self, name: str, links: list[str], turn: int | None = None) -> Part:
-        """These links, with the phases that they have green in."""
-        return Part(name, links, sorted({self.phase_of(link) for link in links}), turn)
+    def part(self, name: str, links: list[str]) -> Part:
+        """These links, with the phases that are their homes."""
+        return Part(name, links, sorted({self.phase_of(link) for link in links}))
+
+    def single(self, name: str, link: str, turn: int | None = None) -> Part:
+        """A link, or a movement of it."""
+        return Part(name, [link], [self.phase_of(link)], turn, link)
 
     def parts(self, kind: str, approaches: dict[str, list[str]]) -> list[Part]:
         """The parts of the network of a kind, in the order of the network."""
@@ -265,9 +266,9 @@ class Study:
                 for node, number in self.greens
             ]
         if kind == "link":
-            return [self.part(link.name, [link.name]) for link in ending]
+            return [self.single(link.name, link.name) for link in ending]
         if kind == "movement":
-            return [self.part(f"{link.name}>{turn.exit}", [link.name], place) for link in ending for place, turn in enumerate(link.turns)]
+            return [self.single(f"{link.name}>{turn.exit}", link.name, place) for link in ending for place, turn in enumerate(link.turns)]
         return [self.part(name, links) for name, links in approaches_of(self.network, approaches).items()]
 
     def table(
@@ -326,54 +327,6 @@ def _flows_under(network: Network, arrivals: Place | Sequence[Arrival], read: Re
     rows = read_arrivals(arrivals) if is_place else arrivals
     require_links(network, arrivals if is_place else "the arrivals", rows)
     return flows_of_greens(network, rows, read.greens)
-
-
-def csv_text(rows: Iterable[Measures]) -> str:
-    """The measures as CSV: a column for each field, an empty cell where a measure has no meaning, at most three digits after the point."""
-    text = io.StringIO()
-    writer = csv.writer(text, lineterminator="\n")
-    writer.writerow(field.name for field in fields(Measures))
-    for row in rows:
-        writer.writerow(f"{cell:.3f}".rstrip("0").rstrip(".") if isinstance(cell, float) else cell for cell in asdict(row).values())
-    return text.getvalue()
-
-
-def _number(value: float | None, digits: int = 1) -> str:
-    return "-" if value is None else f"{value:.{digits}f}"
-
-
-def _percent(part: float | None) -> str:
-    return "-" if part is None else f"{100 * part:.0f}"
-
-
-def _span(mean: float | None, least: int | None, most: int | None) -> str:
-    return "-" if mean is None else f"{mean:.0f} ({least}-{most})"
-
-
-HEADS = (
-    "second", "", "vehicles", "s/veh", "LOS", "stopped %", "queue 50", "95", "most", "split failures",
-    "on green %", "platoon", "green s", "cycle s", "dark s", "none",
-)  # fmt: skip
-
-
-def _cells(row: Measures) -> list[str]:
-    return [
-        f"{row.begin}-{row.end}", row.name, _number(row.vehicles), _number(row.delay_each), row.level or "-",
-        _percent(quotient(row.stopped, row.vehicles)), _number(row.queue_50), _number(row.queue_95), _number(row.queue_most),
-        f"{row.failures} of {row.greens}", _percent(row.on_green), _number(row.platoon_ratio, 2),
-        _span(row.green_mean, row.green_least, row.green_most), _span(row.cycle_mean, row.cycle_least, row.cycle_most),
-        str(row.dark), "-" if row.plans is None else f"{row.none} of {row.plans}",
-    ]  # fmt: skip
-
-
-def table_text(rows: Sequence[Measures]) -> str:
-    """The measures as a table for people."""
-    table = [list(HEADS), *map(_cells, rows)]
-    table[0][1] = rows[0].kind if rows else ""
-    wide = [max(map(len, column)) for column in zip(*table)]
-    sides = [str.ljust, str.ljust, *[str.rjust] * len(HEADS)]
-    lines = ("  ".join(side(cell, width) for side, cell, width in zip(sides, line, wide)) for line in table)
-    return "\n".join(line.rstrip() for line in lines) + "\n"
 
 
 def approach_of(words: str) -> tuple[str, list[str]]:

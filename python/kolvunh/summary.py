@@ -12,7 +12,9 @@ from tempfile import TemporaryDirectory
 
 from .check_input import say_worst
 from .commands import Words, end
-from .measures import VEHICLE, Measures, Study, quotient, study_of
+from .arrivals import VEHICLE
+from .measure_values import Measures, quotient
+from .measures import Study, study_of
 from .networks import Network, network_faults, read_network
 from .programs import run
 from .records import plural
@@ -52,7 +54,8 @@ def _lengths(row: Measures) -> str:
 
 def _vehicles(study: Study) -> str:
     entered, flows = study.entries(0, study.end), study.flows.values()
-    left = sum(flow.left[-1] for flow in flows if flow.link.end is None)
+    over = {turn.exit for flow in flows if flow.link.walk is not None for turn in flow.link.turns}
+    left = sum(flow.left[-1] for flow in flows if flow.link.end is None and flow.link.name not in over)
     return f"{few(entered / VEHICLE)} came in, {few(left / VEHICLE)} left, {few((entered - left) / VEHICLE)} on the way at the end"
 
 
@@ -75,6 +78,8 @@ def lines_of(network: Network, study: Study) -> list[tuple[str, str]]:
         ("failures", f"{whole.failures} of {plural(whole.greens, 'green')} ended with a queue that stood since the green began"),
         ("on green", f"{whole.on_green or 0:.0%} of the vehicles come on green, platoon ratio {whole.platoon_ratio or 0:.2f}"),
     ]
+    if whole.persons:
+        lines.insert(2, ("on foot", f"{few(whole.persons)} came to a crossing, and waited {few(whole.person_delay_each or 0)} s each"))
     if whole.plans is not None:
         missed = f"{whole.none} of them `none`: no order kept the longest waits" if whole.none else "an order was found for each"
         lines.append(("plans", f"{whole.plans}, {missed}"))

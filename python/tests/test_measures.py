@@ -3,6 +3,7 @@
 import csv
 import importlib.util
 import io
+import math
 import unittest
 
 from kolvunh import Fault, measures, page, summary
@@ -83,6 +84,26 @@ class MeasuresTest(FilesTest):
         left, walk = (self.row(study, "link", name) for name in ("left", "walk"))
         self.assertEqual((left.on_green, left.platoon_ratio, left.greens), (1, 1.5, 1))
         self.assertEqual((walk.on_green, round(walk.platoon_ratio, 9)), (0.5, 7.5))
+
+    def test_who_walks(self) -> None:
+        # Who comes in the second in which a walk ends waits to the end of the run.
+        report = "kind,round,node,x,y,z,w\ngreen,,a,0,0,10,\ngreen,,a,1,15,20,\ngreen,,a,2,25,30,\n"
+        study = self.study(report, "second,link,amount\n4,left,1000\n25,walk,1000\n26,walk,1000\n", OVERLAPS)
+        left, walk, node = (self.row(study, *part) for part in (("link", "left"), ("link", "walk"), ("node", "a")))
+        self.assertEqual([(row.vehicles, row.persons, row.level) for row in (left, walk, node)], [(1, 0, "A"), (0, 2, None), (1, 2, "A")])
+        self.assertEqual((left.green_mean, left.dark, left.delay + walk.person_delay), (20, 10, node.delay + node.person_delay))
+
+    def test_more_comes_than_leaves(self) -> None:
+        # Of five seconds two are lost, so 1.5 of five vehicles may leave: F, though each waits 8.5 seconds.
+        report = "kind,round,node,x,y,z,w\ngreen,,a,0,0,7,\ngreen,,a,1,12,17,\n"
+        row = self.row(self.study(report, "second,link,amount\n0,sa,5000\n"), "link", "sa")
+        self.assertEqual((row.capacity, row.v_c, row.delay_each, row.level), (1.5, 5 / 1.5, 8.5, "F"))
+
+    def test_a_link_that_is_never_served(self) -> None:
+        # Phase 1 of b has no green. Its vehicle stands from moment 11 on: through the second green of phase 0 and not the first.
+        report = "kind,round,node,x,y,z,w\ngreen,,b,0,0,5,\ngreen,,b,0,12,17,\n"
+        row = self.row(self.study(report, "second,link,amount\n0,sb,1000\n"), "link", "sb")
+        self.assertEqual((row.greens, row.failures, row.v_c, row.level, row.green_mean), (2, 1, math.inf, "F", None))
 
     def test_a_movement_is_what_takes_a_turn(self) -> None:
         # Half of what comes from a turns back at b: 0.5 of the vehicle that reaches b in the seconds 20 and 21.
