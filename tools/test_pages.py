@@ -30,6 +30,13 @@ def text_of(page: Path) -> str:
     return page.read_text(encoding="utf-8")
 
 
+@cache
+def house() -> definitions.House:
+    """All definitions of the repository."""
+    return definitions.House()
+
+
+@cache
 def headings(page: Path) -> list[str]:
     return [heading.replace("`", "") for heading in HEADING.findall(without_code(text_of(page)))]
 
@@ -73,12 +80,12 @@ def dead_places(page: Path) -> Iterator[str]:
             yield place
 
 
-def dead_definitions(house: definitions.House, page: Path) -> Iterator[str]:
+def dead_definitions(page: Path) -> Iterator[str]:
     """The definitions that a page names after a file of specs and that are not in it."""
     crate = ""
     for named, file, names in CITED.findall(without_code(text_of(page))):
         crate = named or crate
-        found = house.files.get((crate, file))
+        found = house().files.get((crate, file))
         for name in re.findall(r"`([^`]+)`", names):
             if named and found is None:
                 yield f"{crate}/{file}"
@@ -100,10 +107,9 @@ class Pages(unittest.TestCase):
                 self.assertEqual(list(dead_places(page)), [])
 
     def test_definitions(self):
-        house = definitions.House()
         for page in PAGES:
             with self.subTest(page=str(page.relative_to(ROOT))):
-                self.assertEqual(list(dead_definitions(house, page)), [])
+                self.assertEqual(list(dead_definitions(page)), [])
 
     def test_sources_lead_to_sections(self):
         sources = [path for pattern in SOURCES for path in ROOT.glob(pattern) if path != Path(__file__).with_name("test_definitions.py")]
@@ -137,8 +143,8 @@ class Counts(unittest.TestCase):
     """What pages count, but for what was measured at its time."""
 
     def test_counts(self):
-        house = definitions.House()
-        safe = definitions.size_of(definitions.specs_of(house, definitions.below(house, [definitions.find(house, "IsSafe")])))
+        below = definitions.below(house(), [definitions.find(house(), "IsSafe")])
+        safe = definitions.size_of(definitions.specs_of(house(), below))
         lines = crate_lines(text_of(ROOT / "crates.txt"))
         counts = {
             r"(\d+) definitions in (\d+) lines": [tuple(map(str, safe))],
