@@ -5,6 +5,12 @@ const data = JSON.parse(document.getElementById("data").textContent);
 const find = (id) => document.getElementById(id);
 const END = data.seconds, LEFT = 74, RIGHT = 24;
 const SERIES = ["#0072b2", "#d55e00", "#009e73", "#cc79a7", "#e69f00", "#56b4e9"];
+// Of phases, of the two ways along a street, and of links: none is that of a report
+const PHASES = ["#5b3f8c", "#a06cd5", "#c9a7e8", "#8a7f99"];
+const WAYS = ["#3b3b3b", "#b8860b"];
+const LINKS = ["#1b6e6e", "#c2571a", "#7a7a00", "#9c2c77", "#555555", "#2c8c3c"];
+// How lines are broken of the seventh link on, and of the thirteenth on
+const BREAKS = ["", "6 3", "2 3"];
 // Seconds a vehicle up to which a level of service goes, its name and its colour
 const LEVELS = [
   [10, "A", "#1a9850"], [20, "B", "#91cf60"], [35, "C", "#d9ef8b"],
@@ -128,10 +134,17 @@ function isFailure(run, link, [, from, to]) {
 function signals(run, links, from, to) {
   const keys = new Map(links.map((link) => [`${link.to} ${link.phase}`, link]));
   const greens = [], cycles = [];
-  let failures = 0;
+  let failures = 0, unserved = 0;
   const unmarked = [...keys.values()].filter((link) => !data.nodes[link.to].phases[link.phase].skip);
   for (const { to: node, phase } of keys.values()) {
     const served = links.filter((link) => link.to === node && link.phase === phase), all = run.greensOf(node, phase);
+    if (!all.some((green) => from < green[2] && green[1] < to)) {
+      const others = data.nodes[node].phases.map((_, other) => run.greensOf(node, other).filter((green) => from < green[2] && green[2] <= to));
+      for (const green of others.reduce((one, other) => (other.length > one.length ? other : one))) {
+        unserved++;
+        if (served.some((link) => isFailure(run, link.number, green))) failures++;
+      }
+    }
     all.forEach((green, at) => {
       if (from < green[2] && green[2] <= to) {
         greens.push(green[2] - green[1]);
@@ -141,13 +154,13 @@ function signals(run, links, from, to) {
       if (at && counts && from < green[1] && green[1] <= to) cycles.push(green[1] - all[at - 1][1]);
     });
   }
-  return { greens, cycles, failures };
+  return { greens, cycles, failures, chances: greens.length + unserved };
 }
 
 // The measures of links together, as `./signal measures` takes them: docs/FORMATS.md, "Measures"
 function measures(run, links, from, to) {
-  const all = tally(run, links, from, to), queues = new Float64Array(to - from);
-  for (const link of links) {
+  const roads = links.filter((link) => link.walk === null), all = tally(run, roads, from, to), queues = new Float64Array(to - from);
+  for (const link of roads.length ? roads : links) {
     const queue = run.queue(link.number);
     for (let at = 0; at < queues.length; at++) queues[at] += queue[from + 1 + at];
   }
@@ -163,7 +176,7 @@ function measures(run, links, from, to) {
 }
 
 function came(run, from, to) {
-  const entries = data.links.filter((link) => link.from < 0).map((link) => run.entered[link.number]);
+  const entries = data.links.filter((link) => link.from < 0 && link.walk === null).map((link) => run.entered[link.number]);
   return sum(entries.map((entered) => entered[to] - entered[from])) / 1000;
 }
 
@@ -171,9 +184,14 @@ function came(run, from, to) {
 
 function steps(span, pixels, sizes) { return sizes.find((size) => (span / size) * pixels <= 1) ?? sizes[sizes.length - 1]; }
 
+const NAMES = {
+  overview: "vehicles that wait in all queues", space: "time and space", queues: "queues", splits: "splits by cycle", coordination: "coordination",
+};
+
 class Chart {
   constructor(place, high, most, label, window = [chosen.from, chosen.to]) {
     this.place = find(place);
+    this.label = `${NAMES[place]}, ${label}, from second ${window[0]} to ${window[1]}`;
     this.wide = this.place.clientWidth || 1100;
     [this.high, this.top, this.bottom, this.most] = [high, 10, high - 34, most || 1];
     [this.from, this.to] = window;
@@ -223,7 +241,7 @@ class Chart {
   }
   draw(after = "") {
     const id = `cut-${this.place.id}`, box = `x="${LEFT}" y="0" width="${this.wide - LEFT - RIGHT}" height="${this.bottom + 1}"`;
-    this.place.innerHTML = `<svg viewBox="0 0 ${this.wide} ${this.high}" height="${this.high}">
+    this.place.innerHTML = `<svg viewBox="0 0 ${this.wide} ${this.high}" height="${this.high}" role="img" aria-label="${escape(this.label)}">
       <clipPath id="${id}"><rect ${box}/></clipPath>${this.parts.join("")}
       <path d="M${LEFT} ${this.top}V${this.bottom}H${this.wide - RIGHT}" fill="none" stroke="#888"/>
       <g clip-path="url(#${id})">${this.inner.join("")}</g>${after}</svg>`;
@@ -232,6 +250,17 @@ class Chart {
 
 function keyOf(names, colours) {
   const part = (name, at) => `<span><i style="background:${colours[at % colours.length]}"></i>${escape(name)}</span>`;
+  return names.map(part).join(" ");
+}
+
+// The look of the line of a link in the chart of queues, and of its key
+const lineOf = (at) => [LINKS[at % LINKS.length], BREAKS[Math.floor(at / LINKS.length) % BREAKS.length]];
+
+function keyOfLines(names) {
+  const part = (name, at) => {
+    const [colour, breaks] = lineOf(at);
+    return `<span><svg class="swatch" viewBox="0 0 26 8"><path d="M0 4H26" stroke="${colour}" stroke-width="2.5" stroke-dasharray="${breaks}"/></svg>${escape(name)}</span>`;
+  };
   return names.map(part).join(" ");
 }
 
@@ -254,65 +283,42 @@ function drawOverview() {
 
 // ---- The street
 
-const ROOM = data.nodes.length > 12 ? 46 : 84;
-
 function mapScale(wide, high) {
+  const ROOM = data.nodes.length > 12 ? 46 : Math.min(84, wide / 6);
   const xs = data.nodes.map((node) => node.x), ys = data.nodes.map((node) => node.y);
   const span = (list) => Math.max(...list) - Math.min(...list);
-  const scale = Math.min((wide - 2 * ROOM - 20) / (span(xs) || 1), (high - 2 * ROOM) / (span(ys) || 1));
+  const scale = Math.min((wide - 2 * ROOM - 20) / (span(xs) || 1), (high - 2 * Math.min(84, high / 4)) / (span(ys) || 1));
   const middle = (list) => (Math.max(...list) + Math.min(...list)) / 2;
   return data.nodes.map((node) => [wide / 2 + (node.x - middle(xs)) * scale, high / 2 + (node.y - middle(ys)) * scale]);
 }
 
-// How long the longest text is that two names share
-function common(one, other) {
-  for (let size = Math.min(one.length, other.length); size; size--)
-    for (let at = 0; at + size <= one.length; at++) if (other.includes(one.slice(at, at + size))) return size;
-  return 0;
-}
-
-// The legs of a junction that lead out of the network: links in and a link out that are named alike and not joined by a turn
+// The legs of a junction that lead out of the network: links of about one side, in and out
 function legsOf(node) {
-  const legs = data.links.filter((link) => link.to < 0 && link.from === node).map((leaves) => ({ leaves, enters: [] }));
-  for (const link of data.links.filter((each) => each.from < 0 && each.to === node)) {
-    const turnsInto = (leaves) => !leaves || link.turns.some(([exit, part]) => exit === leaves.number && part);
-    const fits = ({ leaves }) => common(link.name, leaves?.name ?? "") - (turnsInto(leaves) ? 3 : 0);
-    const best = legs.reduce((one, other) => (one && fits(one) >= fits(other) ? one : other), undefined);
-    if (best && fits(best) >= 2) best.enters.push(link); else legs.push({ leaves: undefined, enters: [link] });
+  const legs = [], apart = (one, other) => Math.abs(Math.atan2(Math.sin(one - other), Math.cos(one - other)));
+  for (const link of data.links.filter((each) => each.side !== null && (each.from === node || each.to === node))) {
+    let leg = legs.find((each) => apart(each.angle, link.side) < 0.3);
+    if (!leg) legs.push((leg = { angle: link.side, enters: [], leaves: [] }));
+    (link.to === node ? leg.enters : leg.leaves).push(link);
   }
   return legs;
 }
 
-// The exit that at least half of what comes on a link takes
-function straight(link) { return data.links[link.turns.find(([, part]) => part >= 500)?.[0]]; }
-
-// Directions for the legs of all junctions: opposite to where most of their vehicles go or come from, and far from what is there already
-function stubs(points) {
-  const apart = (one, other) => Math.abs(Math.atan2(Math.sin(one - other), Math.cos(one - other)));
-  return data.nodes.map((_, node) => {
-    const used = [], at = new Map();
-    for (const link of data.links.filter((each) => each.from >= 0 && each.to >= 0 && (each.from === node || each.to === node))) {
-      const other = points[link.from === node ? link.to : link.from];
-      const angle = Math.atan2(other[1] - points[node][1], other[0] - points[node][0]);
-      used.push(angle);
-      at.set(link, angle);
+// What is written on the map: a text is put where it covers no other and is not cut, at the first of its places; else it is left out
+class Labels {
+  constructor(wide, high, taken) { [this.wide, this.high, this.taken, this.parts] = [wide, high, taken, []]; }
+  put(words, places) {
+    if (!words) return;
+    const width = 6.4 * words.length + 4;
+    for (const [x, y, anchor] of places) {
+      const left = anchor === "middle" ? x - width / 2 : anchor === "end" ? x - width : x;
+      const box = [left, y - 11, left + width, y + 3];
+      if (box[0] < 1 || box[2] > this.wide - 1 || box[1] < 1 || box[3] > this.high - 1) continue;
+      if (this.taken.some(([a, b, c, d]) => box[0] < c && a < box[2] && box[1] < d && b < box[3])) continue;
+      this.taken.push(box);
+      this.parts.push(`<text class="small name-of" x="${x.toFixed(1)}" y="${y.toFixed(1)}" text-anchor="${anchor}">${escape(words)}</text>`);
+      return;
     }
-    const legs = legsOf(node), lead = new Set(into[node].filter((link) => link.from >= 0));
-    for (const leg of legs) {
-      leg.enters.sort((one, other) => runs[0].entered[other.number][END] - runs[0].entered[one.number][END]);
-      lead.add(leg.enters[0]);
-      const from = leg.leaves && into[node].find((link) => lead.has(link) && at.has(link) && straight(link) === leg.leaves);
-      const to = leg.enters.slice(0, 1).map(straight).find((exit) => at.has(exit));
-      const wanted = from || to ? at.get(from ?? to) + Math.PI : used.length ? null : -Math.PI / 2;
-      const room = (angle) => Math.min(1.5, ...used.map((other) => apart(angle, other)));
-      const score = (angle) => room(angle) - (wanted === null ? 0 : 0.8 * apart(angle, wanted));
-      const free = Array.from({ length: 24 }, (_, place) => (place * Math.PI) / 12).filter((angle) => room(angle) > 0.25);
-      leg.angle = (free.length ? free : [0.13]).reduce((one, other) => (score(other) > score(one) + 1e-6 ? other : one));
-      used.push(leg.angle);
-      [...leg.enters, leg.leaves].filter(Boolean).forEach((link) => at.set(link, leg.angle));
-    }
-    return legs;
-  });
+  }
 }
 
 const short = (numbers) => numbers.map((number) => number.toFixed(1)).join(" ");
@@ -341,44 +347,58 @@ function arrow(link, [x1, y1], [x2, y2], run, isRoute, lane = 0) {
     <path d="${way}" stroke="${colour}" stroke-width="${wide}"/><path d="${tip}" fill="#333"/></g>`;
 }
 
-// The names at the far end of a leg: those of its links in on their side, that of its link out on the other
-function names([x, y], dx, dy, enters, leaves) {
-  const say = (words, left, top, anchor) =>
-    `<text class="small name-of" x="${left.toFixed(1)}" y="${top.toFixed(1)}" text-anchor="${anchor}">${escape(words)}</text>`;
-  const into = enters.map((link) => link.name).join(", "), out = leaves?.name ?? "";
-  if (Math.abs(dx) < 0.6) return say([into, out].filter(Boolean).join(" / "), x, y + dy * 12 + 4, "middle");
-  const side = dx < 0 ? 1 : -1, anchor = dx < 0 ? "end" : "start", lanes = 8 * Math.max(0, enters.length - 1);
-  return say(into, x + side * 12, y + side * (14 + lanes) + 4, anchor) + say(out, x + side * 12, y - side * 14 + 4, anchor);
+// The names at the far end of a leg: those of its links in on their side, those of its links out on the other
+function nameLeg(labels, [x, y], dx, dy, enters, leaves) {
+  const say = (links, side) => links.forEach(({ name }, at) => {
+    const down = 13 * at, flat = Math.abs(dx) >= 0.6, anchor = dx < 0 ? "start" : "end";
+    const beside = [[x + 9, y + 4 + down, "start"], [x - 9, y + 4 + down, "end"]];
+    const level = [[x + (dx < 0 ? -24 : 24), y + side * (16 + down) + 4, anchor], [x + (dx < 0 ? -24 : 24), y + side * (34 + down) + 4, anchor]];
+    const beyond = [[x, y + dy * (14 + down) + 4, "middle"]];
+    labels.put(name, flat ? [...level, ...beside] : [...(side * dy > 0 ? beside : beside.reverse()), ...beyond]);
+  });
+  say(enters, dx < 0 ? 1 : -1);
+  say(leaves, dx < 0 ? -1 : 1);
 }
 
-function junction(node, number, [x, y], found, isFlat) {
-  const at = level(found.each), isChosen = number === chosen.node, delay = data.nodes.length <= 12 ? ` ${fixed(found.each, 1)} s` : "";
+function junction(node, number, [x, y], found) {
+  const at = level(found.each), isChosen = number === chosen.node;
   const title = `${node.name}: ${fixed(found.each, 1)} s a vehicle, queue up to ${found.queue[2].toFixed(1)} vehicles`;
-  const beside = isFlat ? `x="${x}" y="${y - 17}" text-anchor="middle"` : `x="${x + 11}" y="${y - 12}"`;
   const rim = isChosen ? 'stroke="#36c" stroke-width="3.5"' : 'stroke="#333"';
-  return `<g class="node" data-node="${number}"><title>${escape(title)}</title>
+  return `<g class="node" data-node="${number}" role="button" tabindex="0" aria-label="${escape(title)}"><title>${escape(title)}</title>
     <circle cx="${x}" cy="${y}" r="11" fill="${at ? at[2] : "#ddd"}" ${rim}/>
-    <text x="${x}" y="${y + 4}" text-anchor="middle" style="fill:${at ? inkOn(at) : "#222"}">${at ? at[1] : ""}</text>
-    <text class="small name-of" ${data.nodes.length === 1 ? 'x="4" y="14"' : beside}>${escape(node.name)}${delay}</text></g>`;
+    <text x="${x}" y="${y + 4}" text-anchor="middle" style="fill:${at ? inkOn(at) : "#222"}">${at ? at[1] : ""}</text></g>`;
+}
+
+function nameJunction(labels, node, [x, y], found) {
+  const words = data.nodes.length <= 12 ? `${node.name} ${fixed(found.each, 1)} s` : node.name;
+  const around = [[x + 12, y - 14, "start"], [x, y - 18, "middle"], [x - 12, y - 14, "end"], [x + 12, y + 24, "start"], [x - 12, y + 24, "end"], [x, y + 30, "middle"]];
+  labels.put(words, around);
 }
 
 function drawMap() {
   const place = find("map"), wide = place.clientWidth || 600, count = data.nodes.length, run = runs[chosen.report];
   const isFlat = count > 1 && new Set(data.nodes.map((node) => Math.round(node.y))).size === 1;
-  const high = isFlat ? 190 : Math.min(wide, count === 1 ? 470 : 560), points = mapScale(wide, high), parts = [];
+  const high = isFlat ? 260 : Math.min(Math.max(wide, 340), count === 1 ? 470 : 560), points = mapScale(wide, high), parts = [];
   const steps = new Set(chosen.route.slice(1).flatMap((node, at) => [`${chosen.route[at]} ${node}`, `${node} ${chosen.route[at]}`]));
-  for (const link of data.links.filter((each) => each.from >= 0 && each.to >= 0))
-    parts.push(arrow(link, points[link.from], points[link.to], run, steps.has(`${link.from} ${link.to}`)));
-  const reach = count === 1 ? 170 : count > 30 ? 34 : 50;
-  stubs(points).forEach((legs, node) => legs.forEach(({ angle, enters, leaves }) => {
+  const lanes = new Map();
+  for (const link of data.links.filter((each) => each.from >= 0 && each.to >= 0)) {
+    const way = `${link.from} ${link.to}`, lane = lanes.get(way) ?? 0;
+    lanes.set(way, lane + 1);
+    parts.push(arrow(link, points[link.from], points[link.to], run, steps.has(way), lane));
+  }
+  const reach = count === 1 ? Math.min(170, wide / 2 - 40) : count > 30 ? 30 : Math.min(58, wide / 8);
+  const found = into.map((links) => measures(run, links, chosen.from, chosen.to));
+  const labels = new Labels(wide, high, points.map(([x, y]) => [x - 12, y - 12, x + 12, y + 12]));
+  data.nodes.forEach((node, number) => nameJunction(labels, node, points[number], found[number]));
+  data.nodes.forEach((_, node) => legsOf(node).forEach(({ angle, enters, leaves }) => {
     const [dx, dy] = [Math.cos(angle), Math.sin(angle)], far = [points[node][0] + dx * reach, points[node][1] + dy * reach];
     enters.forEach((link, lane) => parts.push(arrow(link, far, points[node], run, false, lane)));
-    if (leaves) parts.push(arrow(leaves, points[node], far, run, false));
-    if (count <= 12) parts.push(names(far, dx, dy, enters, leaves));
+    leaves.forEach((link, lane) => parts.push(arrow(link, points[node], far, run, false, lane)));
+    if (count <= 12) nameLeg(labels, far, dx, dy, enters, leaves);
   }));
-  data.nodes.forEach((node, number) =>
-    parts.push(junction(node, number, points[number], measures(run, into[number], chosen.from, chosen.to), isFlat)));
-  place.innerHTML = `<svg viewBox="0 0 ${wide} ${high}" height="${high}" fill="none">${parts.join("")}</svg>`;
+  data.nodes.forEach((node, number) => parts.push(junction(node, number, points[number], found[number])));
+  place.innerHTML = `<svg viewBox="0 0 ${wide} ${high}" height="${high}" fill="none" role="group" aria-label="the street, its junctions and links">
+    ${parts.join("")}${labels.parts.join("")}</svg>`;
 }
 
 // ---- Tables
@@ -396,7 +416,7 @@ const LINES = [
   ["delay at each stop line, s", (m) => `${fixed(m.each, 1)} ${badge(m.each)}`, (m) => m.each],
   ["stopped, of those at a stop line", (m) => share(m.stopped), (m) => m.stopped],
   ["all queues, 50 / 95 / most", (m) => m.queue.map((queue) => queue.toFixed(1)).join(" / "), (m) => m.queue[1]],
-  ["split failures", (m) => `${m.failures} of ${m.greens.length}`, (m) => divided(m.failures, m.greens.length)],
+  ["split failures", (m) => `${m.failures} of ${m.chances}`, (m) => divided(m.failures, m.chances)],
   ["come on green", (m) => share(m.onGreen), (m) => (m.onGreen === null ? null : -m.onGreen)],
   ["platoon ratio", (m) => fixed(m.ratio, 2), (m) => (m.ratio === null ? null : -m.ratio)],
   ["greens, s: mean (from-to)", (m) => spread(m.greens)],
@@ -418,8 +438,9 @@ function drawSides() {
   });
   const head = runs.map((run, at) => `<th style="color:${SERIES[at % SERIES.length]}">${escape(run.name)}</th>`).join("");
   const rows = LINES.map(([label, say, rank]) => {
-    const ranks = rank && all.length > 1 ? all.map((each) => rank(each) ?? Infinity) : [], best = Math.min(...ranks);
-    const cells = all.map((each, at) => `<td class="${ranks[at] === best ? "best" : ""}">${say(each)}</td>`);
+    const ranks = rank && all.length > 1 ? all.map((each) => rank(each) ?? Infinity) : [], [best, next] = [...ranks].sort((a, b) => a - b);
+    const isClear = best !== Infinity && next - best > 0.1 * Math.max(Math.abs(best), Math.abs(next));
+    const cells = all.map((each, at) => `<td class="${isClear && ranks[at] === best ? "best" : ""}">${say(each)}</td>`);
     return `<tr><td>${label}</td>${cells.join("")}</tr>`;
   });
   find("sides").innerHTML = `<table><thead><tr><th></th>${head}</tr></thead><tbody>${rows.join("")}</tbody></table>`;
@@ -435,7 +456,7 @@ function partsOf() {
 const COLUMNS = [
   ["delay, s", (m) => `${fixed(m.each, 1)} ${badge(m.each)}`],
   [runs.length < 3 ? "queue 95" : "queue", (m) => m.queue[1].toFixed(1)],
-  [runs.length < 3 ? "failures" : "fail", (m) => `${m.failures}/${m.greens.length}`],
+  [runs.length < 3 ? "failures" : "fail", (m) => `${m.failures}/${m.chances}`],
   ...(runs.length < 3 ? [["on green", (m) => share(m.onGreen)]] : []),
 ];
 
@@ -445,13 +466,13 @@ function drawTable() {
   if (chosen.sort >= 0) rows.sort((one, other) => (other.all[chosen.sort].each ?? -1) - (one.all[chosen.sort].each ?? -1));
   const mark = (place) => (chosen.sort === place ? " \u25bc" : ""), colour = (at) => `style="color:${SERIES[at % SERIES.length]}"`;
   const wide = `colspan="${COLUMNS.length}" class="over"`;
-  const head = runs.map((run, at) => `<th ${wide} data-sort="${at}" ${colour(at)}>${escape(run.name)}${mark(at)}</th>`);
+  const head = runs.map((run, at) => `<th ${wide} data-sort="${at}" ${colour(at)}><button class="plain">${escape(run.name)}${mark(at)}</button></th>`);
   const under = runs.flatMap(() => COLUMNS.map(([label]) => `<th>${label}</th>`)).join("");
   const lines = rows.map(({ name, node, all }) => {
     const cells = all.flatMap((m) => COLUMNS.map(([, say]) => `<td>${say(m)}</td>`)).join("");
-    return `<tr class="pick ${node === chosen.node ? "chosen" : ""}" data-node="${node}"><td>${escape(name)}</td>${cells}</tr>`;
+    return `<tr class="pick ${node === chosen.node ? "chosen" : ""}" data-node="${node}"><td><button class="plain">${escape(name)}</button></td>${cells}</tr>`;
   });
-  const top = `<tr><th data-sort="-1">in order${mark(-1)}</th>${head.join("")}</tr><tr><td></td>${under}</tr>`;
+  const top = `<tr><th data-sort="-1"><button class="plain">in order${mark(-1)}</button></th>${head.join("")}</tr><tr><td></td>${under}</tr>`;
   const kind = runs.length < 3 ? "" : "narrow";
   find("table").innerHTML = `<table class="${kind}"><thead>${top}</thead><tbody>${lines.join("")}</tbody></table>`;
 }
@@ -543,7 +564,7 @@ function drawSpace() {
   ends.forEach(({ entry, links, exit }, way) => {
     const at = (place) => up(way ? top - place : place), place = (node) => (way ? top - ups[route.length - 1 - node] : ups[node]);
     const trail = (link, low, high) => {
-      if (link) chart.path(paths(chart, run, link, at(low), at(high)), SERIES[way], thin, 'stroke-opacity=".8"');
+      if (link) chart.path(paths(chart, run, link, at(low), at(high)), WAYS[way], thin, 'stroke-opacity=".8"');
     };
     trail(entry, place(0) - (entry?.travel ?? 0), place(0));
     links.forEach((link, number) => trail(link, place(number), place(number + 1)));
@@ -561,7 +582,7 @@ function drawSpace() {
     if (route.length === 1) return `${entry?.name ?? ""} to ${exit?.name ?? ""}`;
     return `from ${data.nodes[first].name} to ${data.nodes[last].name}`;
   });
-  find("spacekey").innerHTML = `${keyOf(ways, SERIES)}: a line for each vehicle on a link, level where it waits.
+  find("spacekey").innerHTML = `${keyOf(ways, WAYS)}: a line for each vehicle on a link, level where it waits.
     ${keyOf(["green", "not green"], [GREEN, RED])}, above a junction's place for those who go up, below for those who go down.`;
 }
 
@@ -573,9 +594,9 @@ function drawQueues() {
   const most = (list) => list.slice(chosen.from, chosen.to + 1).reduce((a, b) => Math.max(a, b), 0);
   const chart = new Chart("queues", 250, Math.max(1, ...lists.map(most)) * 1.05, "vehicles");
   chart.upAxis();
-  lists.forEach((list, at) => chart.series(list, SERIES[at % SERIES.length], 1.5, at >= SERIES.length ? 'stroke-dasharray="5 3"' : ""));
+  lists.forEach((list, at) => chart.series(list, lineOf(at)[0], 1.5, `stroke-dasharray="${lineOf(at)[1]}"`));
   chart.draw();
-  find("queuekey").innerHTML = keyOf(links.map((link) => `${link.name} (phase ${link.phase})`), SERIES);
+  find("queuekey").innerHTML = keyOfLines(links.map((link) => `${link.name} (phase ${link.phase})`));
 }
 
 // The cycles of a junction: from each begin of its first unmarked phase to the next
@@ -598,13 +619,13 @@ function drawSplits() {
     for (const green of greens.filter(([, from]) => from >= begin && from < end)) {
       const [phase, from, to] = green, failed = to <= END && phases[phase].links.some((link) => isFailure(run, link, green));
       const y = chart.y(to - begin), high = +(chart.y(from - begin) - y).toFixed(1), more = failed ? ", a split failure" : "";
-      chart.box(left, right, y, high, SERIES[phase], `phase ${phase}: green ${from} to ${to}, ${to - from} s${more}`);
+      chart.box(left, right, y, high, PHASES[phase], `phase ${phase}: green ${from} to ${to}, ${to - from} s${more}`);
       if (failed) chart.ring((left + right) / 2, y + 5, Math.max(1.5, Math.min(3.4, (right - left) / 3)));
     }
   }
   chart.draw();
   const names = [...phases.map((_, number) => `phase ${number}`), "yellow and all red"];
-  find("splitkey").innerHTML = `${keyOf(names, [...SERIES.slice(0, phases.length), "#ddd"])}; a ring: split failure`;
+  find("splitkey").innerHTML = `${keyOf(names, [...PHASES.slice(0, phases.length), "#ddd"])}; a ring: split failure`;
 }
 
 function drawCoordination() {
@@ -741,6 +762,15 @@ function listen(place) {
   });
   window.addEventListener("mouseup", () => { held = null; });
   place.addEventListener("dblclick", () => look(0, END));
+  place.tabIndex = 0;
+  place.addEventListener("keydown", (event) => {
+    const span = chosen.to - chosen.from, step = Math.max(1, Math.round(span / 5));
+    const ways = { ArrowLeft: [-step, -step], ArrowRight: [step, step], "+": [step, -step], "-": [-step, step], Home: [-END, END] };
+    const way = ways[event.key];
+    if (!way || event.ctrlKey || event.metaKey) return;
+    event.preventDefault();
+    look(event.key === "Home" ? 0 : chosen.from + way[0], event.key === "Home" ? END : chosen.to + way[1]);
+  });
 }
 
 function fill() {
@@ -815,6 +845,7 @@ function begin() {
   for (const id of ["from", "to"]) on(id, "change", () => look(+find("from").value, +find("to").value));
   on("node", "change", () => { chooseNode(+find("node").value); drawAll(); });
   for (const id of ["map", "table"]) on(id, "click", click);
+  on("map", "keydown", (event) => { if (event.key === "Enter" || event.key === " ") { event.preventDefault(); click(event); } });
   on("link", "change", () => { chosen.link = +find("link").value; drawCoordination(); drawSpace(); });
   on("street", "change", () => { chooseStreet(+find("street").value); drawCharts(); drawMap(); });
   for (const id of ["start", "end"]) on(id, "change", chooseRoute);

@@ -1,13 +1,16 @@
 """A page for a browser that needs no network: a street and its reports side by side, in a window of time that the reader chooses.
 
-    ./signal page NET ARR REPORT .. [--title TITLE] [--place NODE=X,Y ..]
+    ./signal page NET ARR REPORT .. [--title TITLE] [--places FILE | --place NODE=X,Y ..]
 
 A REPORT may be written NAME=FILE; without a name it has that of its file. The street is laid out by its links' travel, or by the places of
-all nodes where they are given, x to the right and y up in any unit. Nothing here is proved.
+all nodes where they are given, x to the right and y up in any unit. FILE is a CSV with the header `kind,name,x,y`, as the importers from SUMO and
+OpenStreetMap write it: rows `node,NAME,x,y` for all nodes, and `link,NAME,x,y` for the outer ends of links. Where it has none of a link, its
+turns say from which side it comes. Nothing here is proved.
 """
 
 import argparse
 import json
+import math
 from collections.abc import Sequence
 from importlib import resources
 from itertools import groupby, pairwise
@@ -20,7 +23,8 @@ from .faults import Fault
 from .measures import Study, study_of
 from .networks import Network, network_faults, read_network
 from .places import Places, places_of, streets_of
-from .records import plural, quote
+from .records import Place, plural, quote, rows_of, text_of
+from .sides import sides_of
 
 
 def part_of(name: str) -> str:
@@ -51,10 +55,11 @@ def report_data(name: str, study: Study) -> dict[str, Any]:
     }  # fmt: skip
 
 
-def network_data(network: Network, places: Places) -> dict[str, Any]:
+def network_data(network: Network, places: Places, ends: Places) -> dict[str, Any]:
     """What the page knows of a network: its nodes with their places, its links, and streets, all by their numbers from 0."""
     nodes = {node.name: number for number, node in enumerate(network.nodes)}
     links = {link.name: number for number, link in enumerate(network.links)}
+    sides = sides_of(network, places, ends)
     return {
         "seconds": network.run.seconds,
         "step": network.run.step,
@@ -77,6 +82,7 @@ def network_data(network: Network, places: Places) -> dict[str, Any]:
                 "phase": network.phase_of[link.name][1] if link.end else -1,
                 "greens": sorted(network.greens_of[link.name]) if link.end else [],
                 "walk": link.walk,
+                "side": round(sides[link.name], 3) if link.name in sides else None,
                 "turns": [[links[turn.exit], turn.share] for turn in link.turns],
             }
             for link in network.links
@@ -108,6 +114,21 @@ def place_of(words: str) -> tuple[str, tuple[float, float]]:
     return name, (x, -y)
 
 
+def read_places(place: Place) -> tuple[Places, Places]:
+    """The places of nodes and of the outer ends of links in a file; on the page y goes down."""
+    found: dict[str, Places] = {"node": {}, "link": {}}
+    for row in rows_of(place, text_of(place), ("kind", "name", "x", "y")):
+        kind, name, *numbers = row.fields
+        try:
+            x, y = map(float, numbers)
+        except ValueError:
+            x = y = math.nan
+        if not (math.isfinite(x) and math.isfinite(y)):
+            raise Fault(f"{place}:{row.line}: x and y have to be numbers, and are {quote(','.join(numbers))}")
+        found.setdefault(kind, {})[name] = (x, -y)
+    return found["node"], found["link"]
+
+
 def parser_of() -> Words:
     """What the command takes."""
     parser = Words(__doc__)
@@ -116,6 +137,7 @@ def parser_of() -> Words:
     parser.add_argument("reports", nargs="+", metavar="REPORT", type=report_of)
     parser.add_argument("--title", help="what the page is called (the name of the network's file)")
     parser.add_argument("--place", type=place_of, action="append", default=[], metavar="NODE=X,Y", help="where a node is")
+    parser.add_argument("--places", metavar="FILE", help="where nodes are, and the outer ends of links")
     return parser
 
 
@@ -123,17 +145,18 @@ def answer(words: Sequence[str] | None = None) -> str:
     """What the command writes."""
     options = parser_of().parse_args(words)
     network = read_network(options.network)
-    given = dict(options.place)
+    given, ends = read_places(options.places) if options.places else (dict(options.place), {})
     strange = set(given) ^ {node.name for node in network.nodes} if given else set()
     if strange:
         raise Fault(f"{options.network}: places are to be given for all nodes of the network and for no other: {quote(min(strange))}")
     with network_faults(options.network):
-        data = network_data(network, places_of(network, given))
+        data = network_data(network, places_of(network, given), ends)
         data["reports"] = [report_data(name, study_of(network, options.arrivals, file)) for name, file in options.reports]
     data["title"] = options.title or Path(options.network).stem
     data["about"] = (
         f"{Path(options.network).name} with {Path(options.arrivals).name}: {plural(len(network.nodes), 'junction')}, "
-        f"{plural(len(network.links), 'link')}, {network.run.seconds} seconds. Drawn from reports by tools that are not proved."
+        f"{plural(len(network.links), 'link')}, {network.run.seconds} seconds. One draw of the vehicles and one order of the nodes: another draw may rank the reports otherwise. "
+        f"Drawn from reports by tools that are not proved."
     )
     return page_text(data)
 

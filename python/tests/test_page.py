@@ -92,7 +92,7 @@ class PageTest(FilesTest):
         for said in ('data-ready="yes"', 'data-zoomed="16"', 'data-after="1 1 0 20"'):
             self.assertIn(said, body)
         self.assertEqual(len(re.findall(r'<svg viewBox="0 0 \d', made)), 6)
-        sides = re.search(r'<div id="sides">(.*?)</table>', made)[1]
+        sides = re.search(r'<div id="sides"[^>]*>(.*?)</table>', made)[1]
         rows = [re.findall("<td[^>]*>(.*?)</td>", row) for row in sides.split("<tr>")[2:]]
         found = {row[0]: unescape(re.sub("<[^>]*>", "", row[1])) for row in rows}
         # By hand in test_measures: one vehicle that waits 7.5 seconds; two other links have none.
