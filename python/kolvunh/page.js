@@ -331,11 +331,15 @@ function titleOf(link, hourly, found) {
 }
 
 // A link of the map as an arrow to the right of the line between two points; further ones between them are further to the right
-function arrow(link, [x1, y1], [x2, y2], run, isRoute, lane = 0) {
+function arrow(link, [x1, y1], [x2, y2], run, isRoute, lane = 0, taken = []) {
   const length = Math.hypot(x2 - x1, y2 - y1) || 1, [ux, uy] = [(x2 - x1) / length, (y2 - y1) / length];
   const shift = 5 + 8 * lane, room = 13;
   const from = [x1 + ux * room - uy * shift, y1 + uy * room + ux * shift];
   const to = [x2 - ux * room - uy * shift, y2 - uy * room + ux * shift];
+  for (let at = 0; at <= length; at += 8) {
+    const [x, y] = [from[0] + ((to[0] - from[0]) * at) / length, from[1] + ((to[1] - from[1]) * at) / length];
+    taken.push([x - 4, y - 4, x + 4, y + 4]);
+  }
   const passed = run.left[link.number][chosen.to] - run.left[link.number][chosen.from];
   const hourly = (passed * 3.6) / (chosen.to - chosen.from), wide = 1.5 + Math.min(5, hourly / 250);
   const found = link.to >= 0 ? measures(run, [link], chosen.from, chosen.to) : null;
@@ -371,7 +375,8 @@ function junction(node, number, [x, y], found) {
 
 function nameJunction(labels, node, [x, y], found) {
   const words = data.nodes.length <= 12 ? `${node.name} ${fixed(found.each, 1)} s` : node.name;
-  const around = [[x + 12, y - 14, "start"], [x, y - 18, "middle"], [x - 12, y - 14, "end"], [x + 12, y + 24, "start"], [x - 12, y + 24, "end"], [x, y + 30, "middle"]];
+  const far = [30, 44, 58, 72].flatMap((up) => [[x + 6, y - up, "start"], [x - 6, y - up, "end"], [x + 6, y + up + 8, "start"], [x - 6, y + up + 8, "end"]]);
+  const around = [[x + 12, y - 14, "start"], [x, y - 18, "middle"], [x - 12, y - 14, "end"], [x + 12, y + 24, "start"], [x - 12, y + 24, "end"], [x, y + 30, "middle"], ...far];
   labels.put(words, around);
 }
 
@@ -380,22 +385,23 @@ function drawMap() {
   const isFlat = count > 1 && new Set(data.nodes.map((node) => Math.round(node.y))).size === 1;
   const high = isFlat ? 260 : Math.min(Math.max(wide, 340), count === 1 ? 470 : 560), points = mapScale(wide, high), parts = [];
   const steps = new Set(chosen.route.slice(1).flatMap((node, at) => [`${chosen.route[at]} ${node}`, `${node} ${chosen.route[at]}`]));
-  const lanes = new Map();
+  const lanes = new Map(), taken = points.map(([x, y]) => [x - 12, y - 12, x + 12, y + 12]);
   for (const link of data.links.filter((each) => each.from >= 0 && each.to >= 0)) {
     const way = `${link.from} ${link.to}`, lane = lanes.get(way) ?? 0;
     lanes.set(way, lane + 1);
-    parts.push(arrow(link, points[link.from], points[link.to], run, steps.has(way), lane));
+    parts.push(arrow(link, points[link.from], points[link.to], run, steps.has(way), lane, taken));
   }
   const reach = count === 1 ? Math.min(170, wide / 2 - 40) : count > 30 ? 30 : Math.min(58, wide / 8);
   const found = into.map((links) => measures(run, links, chosen.from, chosen.to));
-  const labels = new Labels(wide, high, points.map(([x, y]) => [x - 12, y - 12, x + 12, y + 12]));
-  data.nodes.forEach((node, number) => nameJunction(labels, node, points[number], found[number]));
+  const labels = new Labels(wide, high, taken), legs = [];
   data.nodes.forEach((_, node) => legsOf(node).forEach(({ angle, enters, leaves }) => {
     const [dx, dy] = [Math.cos(angle), Math.sin(angle)], far = [points[node][0] + dx * reach, points[node][1] + dy * reach];
-    enters.forEach((link, lane) => parts.push(arrow(link, far, points[node], run, false, lane)));
-    leaves.forEach((link, lane) => parts.push(arrow(link, points[node], far, run, false, lane)));
-    if (count <= 12) nameLeg(labels, far, dx, dy, enters, leaves);
+    enters.forEach((link, lane) => parts.push(arrow(link, far, points[node], run, false, lane, taken)));
+    leaves.forEach((link, lane) => parts.push(arrow(link, points[node], far, run, false, lane, taken)));
+    if (count <= 12) legs.push([far, dx, dy, enters, leaves]);
   }));
+  data.nodes.forEach((node, number) => nameJunction(labels, node, points[number], found[number]));
+  legs.forEach((leg) => nameLeg(labels, ...leg));
   data.nodes.forEach((node, number) => parts.push(junction(node, number, points[number], found[number])));
   place.innerHTML = `<svg viewBox="0 0 ${wide} ${high}" height="${high}" fill="none" role="group" aria-label="the street, its junctions and links">
     ${parts.join("")}${labels.parts.join("")}</svg>`;

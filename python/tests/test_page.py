@@ -1,6 +1,7 @@
 """Tests of kolvunh.page and kolvunh.places; what is drawn is asked of Chromium, where that is installed."""
 
 import json
+import math
 import re
 import shutil
 import subprocess
@@ -9,8 +10,9 @@ import unittest
 from argparse import ArgumentTypeError
 from html import unescape
 
-from kolvunh import Fault, page, places
+from kolvunh import Fault, World, max_pressure, page, places, read_arrivals
 from kolvunh.networks import network_of, read_network
+from kolvunh.sides import sides_of
 
 from .test_measures import HELD
 from .worked import ARRIVALS, EXAMPLES, NETWORK, FilesTest
@@ -28,6 +30,22 @@ place.dispatchEvent(new MouseEvent("dblclick"));
 drawCharts();
 drawTables();
 document.body.dataset.after = [chosen.node, chosen.report, chosen.from, chosen.to].join(" ");
+</script></body>"""
+
+
+# A page in a frame of 390 pixels; then how wide it is laid out, how many texts of its map cover another or are cut, and the text of its heads.
+NARROW = """<!doctype html><body><iframe id="frame" style="width:390px;height:3000px;border:0"></iframe><script>
+const frame = document.getElementById("frame");
+frame.onload = () => setTimeout(() => {
+  const page = frame.contentDocument, boxes = [...page.querySelectorAll("#map text")].map((text) => text.getBoundingClientRect());
+  const cover = (a, b) => a.left < b.right - 1 && b.left < a.right - 1 && a.top < b.bottom - 4 && b.top < a.bottom - 4;
+  document.body.dataset.wide = page.scrollingElement.scrollWidth;
+  document.body.dataset.cut = boxes.filter((box) => box.left < 0 || box.right > 390).length;
+  document.body.dataset.covered = boxes.filter((one, at) => boxes.slice(at + 1).some((other) => cover(one, other))).length;
+  document.body.dataset.images = page.querySelectorAll("img, b b").length;
+  document.body.dataset.fault = page.body.dataset.fault ?? "none";
+}, 500);
+frame.srcdoc = TEXT;
 </script></body>"""
 
 
@@ -56,6 +74,26 @@ class PlacesTest(unittest.TestCase):
         self.assertEqual(places.streets_of(network), [["market"]])
 
 
+class SidesTest(unittest.TestCase):
+    def test_sides_by_turns_and_places(self) -> None:
+        # From b, to the right of a, comes who turns into `w`: so `w` leads to the left, and who comes by `in1` and goes to b comes from there.
+        links = [
+            '[[link]]\nname = "in1"\nto = "a"\ntravel = 9\nsat = 500\nturn = [{ exit = "ab", share = 900 }, { exit = "out2", share = 100 }]\n',
+            '[[link]]\nname = "ab"\nfrom = "a"\nto = "b"\ntravel = 9\nsat = 500\nturn = []\n',
+            '[[link]]\nname = "ba"\nfrom = "b"\nto = "a"\ntravel = 9\nsat = 500\nturn = [{ exit = "out1", share = 1000 }]\n',
+            '[[link]]\nname = "out1"\nfrom = "a"\ntravel = 9\nsat = 500\n',
+            '[[link]]\nname = "out2"\nfrom = "a"\ntravel = 9\nsat = 500\n',
+        ]
+        nodes = "".join(f'[[node]]\nname = "{name}"\nphase = []\n' for name in "ab")
+        network = network_of(tomllib.loads("[run]\nstep = 5\nlook = 60\ngap = 2\nrounds = 10\n" + nodes + "".join(links)))
+        where = {"a": (0.0, 0.0), "b": (10.0, 0.0)}
+        found = sides_of(network, where, {})
+        self.assertEqual([round(math.degrees(found[name])) % 360 for name in ("in1", "out1")], [180, 180])
+        self.assertIn(round(math.degrees(found["out2"])) % 360, (90, 270))
+        found = sides_of(network, where, {"in1": (0.0, 5.0)})
+        self.assertEqual(round(math.degrees(found["in1"])), 90)
+
+
 class PageTest(FilesTest):
     def page(self, *words: str) -> str:
         files = [str(self.file(text, name)) for name, text in (("network.toml", NETWORK), ("arrivals.csv", ARRIVALS), ("held.csv", HELD))]
@@ -77,6 +115,28 @@ class PageTest(FilesTest):
             self.page("--place", "a=0,0")
         with self.assertRaises(ArgumentTypeError):
             page.place_of("a=0")
+
+    def test_places_of_a_file(self) -> None:
+        places = self.file("kind,name,x,y\nnode,a,0,1\nnode,b,2,3\nlink,sa,0,9\n", "places.csv")
+        data = json.loads(re.search(r'<script id="data"[^>]*>(.*?)</script>', self.page("--places", str(places)))[1])
+        self.assertEqual([(node["x"], node["y"]) for node in data["nodes"]], [(0, -1), (2, -3)])
+        self.assertEqual(next(link["side"] for link in data["links"] if link["name"] == "sa"), round(-math.pi / 2, 3))
+        with self.assertRaisesRegex(Fault, "places:2: x and y have to be numbers"):
+            self.page("--places", str(self.file("kind,name,x,y\nnode,a,0,x\n", "places")))
+
+    @unittest.skipUnless(CHROMIUM, "Chromium is not installed")
+    def test_a_narrow_page_with_odd_names(self) -> None:
+        files = [EXAMPLES / "corridor.toml", EXAMPLES / "corridor.csv"]
+        world = World(read_network(files[0]), read_arrivals(files[1]))
+        world.run(max_pressure)
+        report = self.file(world.report_text(), "report.csv")
+        odd = '"><img src onerror><b>it\'s</b>'
+        text = page.answer([*map(str, files), f"{odd}={report}", f"b={report}", f"c={report}", "--title", odd])
+        made = self.dom(NARROW.replace("TEXT", json.dumps(text).replace("</", "<\\/")))
+        body = re.search(r"<body([^>]*)>", made)[1]
+        self.assertLessEqual(int(re.search(r'data-wide="(\d+)"', body)[1]), 390)
+        for said in ('data-cut="0"', 'data-covered="0"', 'data-images="0"', 'data-fault="none"'):
+            self.assertIn(said, body)
 
     def dom(self, text: str) -> str:
         """The page as Chromium makes it."""
