@@ -333,7 +333,7 @@ function titleOf(link, hourly, found) {
 // A link of the map as an arrow to the right of the line between two points; further ones between them are further to the right
 function arrow(link, [x1, y1], [x2, y2], run, isRoute, lane = 0, taken = []) {
   const length = Math.hypot(x2 - x1, y2 - y1) || 1, [ux, uy] = [(x2 - x1) / length, (y2 - y1) / length];
-  const shift = 5 + 8 * lane, room = 13;
+  const shift = 5 + (data.nodes.length > 30 ? 3 : 8) * lane, room = 13;
   const from = [x1 + ux * room - uy * shift, y1 + uy * room + ux * shift];
   const to = [x2 - ux * room - uy * shift, y2 - uy * room + ux * shift];
   for (let at = 0; at <= length; at += 8) {
@@ -376,7 +376,7 @@ function junction(node, number, [x, y], found) {
 function nameJunction(labels, node, [x, y], found) {
   const words = data.nodes.length <= 12 ? `${node.name} ${fixed(found.each, 1)} s` : node.name;
   const far = [30, 44, 58, 72].flatMap((up) => [[x + 6, y - up, "start"], [x - 6, y - up, "end"], [x + 6, y + up + 8, "start"], [x - 6, y + up + 8, "end"]]);
-  const around = [[x + 12, y - 14, "start"], [x, y - 18, "middle"], [x - 12, y - 14, "end"], [x + 12, y + 24, "start"], [x - 12, y + 24, "end"], [x, y + 30, "middle"], ...far];
+  const around = [[x + 12, y - 14, "start"], [x, y - 18, "middle"], [x - 12, y - 14, "end"], [x + 12, y + 24, "start"], [x - 12, y + 24, "end"], [x, y + 30, "middle"], ...(data.nodes.length > 12 ? [] : far)];
   labels.put(words, around);
 }
 

@@ -1,5 +1,6 @@
 """What is wrong with a network file: docs/FORMATS.md, "Network file"."""
 
+import math
 import re
 import tomllib
 from collections import Counter
@@ -307,6 +308,10 @@ def _kind_hint(section: str, key: str, found: Any) -> str:
         return ": write [run] in place of [[run]]"
     if isinstance(found, float) and found.is_integer() and kind == WHOLE:
         return f": write {int(found)}"
+    if isinstance(found, float) and key == "share" and 0 < found < 1:
+        return f" of thousandths: write {round(1000 * found)}"
+    if isinstance(found, float) and key in ("yellow", "clear", "loss") and 0 < found < 10:
+        return f" of seconds: write {math.ceil(found)}, the next one"
     if isinstance(found, str) and found.isdigit() and kind == WHOLE:
         return ": write it without quotes"
     return ""

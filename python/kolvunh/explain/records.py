@@ -93,6 +93,8 @@ def header_fault(rows: RecordFile) -> list[str]:
         hint = ": names of columns have no blanks around them and no capitals"
     elif sorted(fields) == sorted(wanted.split(",")):
         hint = ": the columns are in another order"
+    elif fields[1:] == wanted.split(",") and not fields[0]:
+        hint = ": the first column has no name; pandas leaves it out with `to_csv(.., index=False)`"
     elif fields[0].strip().isdigit():
         hint = ": the header is missing"
     return [at(rows.file, line, f"the file begins with {quote(found)}, and has to begin with the line {wanted}{hint}")]
