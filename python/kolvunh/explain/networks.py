@@ -12,6 +12,7 @@ from ..toml_lines import Path, TomlLines, stop_of
 from .wording import at, enumeration, meant, ordinal, thousands, value
 
 MOST_WHOLE = 2**63 - 1
+GAPS = "never green together; where one of them goes in the gaps of the other, it has `yields`, and they are no conflict"
 NAME = re.compile(r"[a-z0-9_]{1,16}")
 LINKS_MOST, ENTRIES_MOST, TURNS_MOST = 16, 16, 16
 
@@ -534,7 +535,7 @@ def _clash_words(net: NetworkFile, a: str, b: str):
     shared = net.shared(a, b)
     if shared is not None:
         both = "are in" if net.homes(a)[0] == net.homes(b)[0] == shared else "are green in"
-        yield f"both {both} {net.name_of(shared)}: links in conflict are {'in two phases' if both == 'are in' else 'never green together'}"
+        yield f"both {both} {net.name_of(shared)}: links in conflict are {'in two phases' if both == 'are in' else GAPS}"
 
 
 def also(net: NetworkFile, item: str) -> list[str]:
