@@ -40,7 +40,7 @@ def json_of(path: Place) -> Any:
     """What a file of JSON holds."""
     try:
         return json.loads(text_of(path))
-    except ValueError as fault:
+    except (ValueError, RecursionError) as fault:
         raise Fault(f"{path}: it is no JSON: {fault}") from fault
 
 

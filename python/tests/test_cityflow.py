@@ -97,6 +97,7 @@ class CityFlowTest(FilesTest):
         for roadnet, flow, said in (
             (HERE / "none.json", HERE / "flow.json", "No such file"),
             (self.file("{", "a.json"), HERE / "flow.json", "it is no JSON"),
+            (self.file("[" * 100_000, "deep.json"), HERE / "flow.json", "it is no JSON"),
             (self.file("{}", "b.json"), HERE / "flow.json", "it is no roadnet of CityFlow"),
             (self.file(json.dumps(no_light), "c.json"), HERE / "flow.json", "no intersection has light phases"),
             (HERE / "roadnet.json", self.file("[{}]", "d.json"), "it is no flow of CityFlow"),
