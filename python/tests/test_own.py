@@ -156,6 +156,26 @@ class OwnTest(unittest.TestCase):
         subprocess.run(words, check=True, capture_output=True)
         self.assertEqual(outcome(self.folder, "actuated", 1).vehicles, 56)
 
+    def test_turns_into_one_lane_that_stop_for_each_other(self):
+        """Twenty turn left and twenty right into one lane, over a crossing on which people walk at first, in one green without an end."""
+        starts = [(5 * n, f"l{n}", "left0A0.140.00") for n in range(20)] + [(3 * n, f"r{n}", "B0A0.140.00") for n in range(20)]
+        turn = '<vehicle id="{1}" depart="{0}" departSpeed="max"><route edges="{2} A0A1"/></vehicle>'
+        walk = '<walk edges="A1A0.140.00 A0A1" departPos="-5" arrivalPos="20"/>'
+        people = "".join(f'<person id="p{n}" depart="{7 * n}">{walk}</person>' for n in range(8))
+        self.routes.write_text(f"<routes>{''.join(turn.format(*start) for start in sorted(starts))}</routes>", encoding="utf-8")
+        walkers = self.folder / "walkers.rou.xml"
+        walkers.write_text(f"<routes>{people}</routes>", encoding="utf-8")
+        path, green = self.folder / "green.xml", '<phase duration="999" state="rrrgGgrrrgGgGrGr"/>'
+        path.write_text(element("additional", element("tlLogic", green, id="A0", type="static", programID="green", offset=0)), encoding="utf-8")
+        self.signals.layout.seconds = 600
+        words = run_words(self.folder, "turns", 1, self.signals, [path], (self.net, f"{self.routes},{walkers}"))
+        place = words.index("--ignore-junction-blocker")
+        self.assertEqual(words[place + 1], str(50 + 3 + 3))
+        subprocess.run([*words[:place], *words[place + 2 :]], check=True, capture_output=True)
+        self.assertLess(outcome(self.folder, "turns", 1).arrived, 40)
+        subprocess.run(words, check=True, capture_output=True)
+        self.assertEqual(outcome(self.folder, "turns", 1).arrived, 40)
+
     def test_whom_a_crossing_meets(self):
         """No other crossing, and who comes over its two edges or goes into them: three ways and three."""
         junctions = self.signals.junctions

@@ -18,8 +18,17 @@ class Outcome(NamedTuple):
     emergency_stops: int
 
 
+def longest_green(nodes):
+    """The seconds of the longest green of nodes with its yellow and clear time: whoever waits to give way leaves within them."""
+    return max(phase["greatest"] + phase["yellow"] + phase["clear"] for node in nodes.values() for phase in node["phase"])
+
+
 def run_words(folder, name, seed, signals, additional=(), files=None):
-    """The words of SUMO for a run, whose outputs are named by its name and seed; files are a network and routes, else the folder's."""
+    """The words of SUMO for a run, whose outputs are named by its name and seed; files are a network and routes, else the folder's.
+
+    Two vehicles that turn into one lane may stop within a junction, each for the other, and would stand there to the end of the run. So
+    the others pass who has stood within a junction for longer than any green.
+    """
     out = folder / f"{name}.{seed}"
     network, routes = files or (folder / "net.net.xml", folder / f"routes.{seed}.rou.xml")
     events = "".join(
@@ -35,6 +44,7 @@ def run_words(folder, name, seed, signals, additional=(), files=None):
         "--end": signals.layout.seconds,
         "--seed": seed,
         "--time-to-teleport": -1,
+        "--ignore-junction-blocker": longest_green(signals.layout.nodes),
         "--collision.action": "warn",
         "--collision.check-junctions": "true",
         "--tripinfo-output": f"{out}.trips.xml",
