@@ -29,7 +29,7 @@ use Rattle.record_text.specs.Walks.{IsFaultAmong, OrMemory}
 use Rattle.round_states.specs.declared.asked.Asked.{Asked}
 use Rattle.round_states.specs.declared.entries.Entry.{Entry}
 use Rattle.round_states.specs.declared.entries.StateRecord.{StateRecord}
-use Rattle.round_states.specs.declared.entries.StateRecord.TheVariants.{Begins, Shows, Stands, Comes, Publishes, Tells, Ignored}
+use Rattle.round_states.specs.declared.entries.StateRecord.TheVariants as said
 use Rattle.round_states.specs.declared.faults.StateFault.{StateFault}
 use Rattle.round_states.specs.declared.faults.StateFault.TheVariants.{NoMemory, Time}
 use Rattle.round_states.specs.declared.states.RoundState.{RoundState}
@@ -38,7 +38,7 @@ use Rattle.round_states.specs.Faults.{IsEntryFault}
 use Rattle.round_states.specs.NextTexts.{AreKept, IsOfAnswer, IsStateTextWith, IsTextFaultWith, Keeps}
 use Rattle.round_states.specs.Order.{AreInOrder, FitsAfter, IsFirstSaid}
 use Rattle.round_states.specs.Readers.{HasRead, IsFaultAt, IsFaultWith}
-use Rattle.round_states.specs.StateRecords.{entry_link_of, green_record, header, parse_fields, parse_in, row_of, row_record, shows_of, byte_of, told_link_of, version_record}
+use Rattle.round_states.specs.StateRecords.{entry_link_of, green_record, header, parse_fields, parse_in, row_of, row_record, green_of, byte_of, told_link_of, version_record}
 use Rattle.round_states.specs.Texts.{TellState}
 use Rattle.round_states.proofs.OrderLaws.{order-push}
 use Rattle.round_states.proofs.TextLaws.{first-fault, parsed-fault}
@@ -63,24 +63,24 @@ number-again n few =
     rw (some, short, digits_decimal own n wide, least) refl
 
 -- the record of a plan says nothing
-plan-again : (net : Net) (name x y z : List ℕ) → parse_in net (codes "plan" ∷ name ∷ x ∷ y ∷ z ∷ []) ≡ Some (record { place = 0; content = Ignored })
+plan-again : (net : Net) (name x y z : List ℕ) → parse_in net (codes "plan" ∷ name ∷ x ∷ y ∷ z ∷ []) ≡ Some (record { place = 0; content = said.Plan })
 unfolding parse_in parse_fields
 plan-again net name x y z = refl
 
 module _ (net : Net) (network : IsNetwork net) where
   -- the record of a green is read as it
-  green-again : (node : ℕ) (green : Green) → node < length net.node_names → green.phase < 2 ^ 8 → green.from < 2 ^ 32 → green.to < 2 ^ 32 → parse_in net (green_record net node green) ≡ Some (record { place = node; content = Shows green })
-  unfolding parse_in parse_fields shows_of byte_of
+  green-again : (node : ℕ) (green : Green) → node < length net.node_names → green.phase < 2 ^ 8 → green.from < 2 ^ 32 → green.to < 2 ^ 32 → parse_in net (green_record net node green) ≡ Some (record { place = node; content = said.Green green })
+  unfolding parse_in parse_fields green_of byte_of
   green-again node green inside phase from to =
       rw (number-again green.phase (omega arith), number-again green.from from, number-again green.to to, lt-ltb green.phase 256 (omega arith), number_of-own net.node_names network.outline.nodes_differ node inside) refl
 
   module _ (link : ℕ) (inside : link < length net.link_names) (from : IsSome (link_at net link).from) (to : IsSome (link_at net link).to) where
     -- and so are those of a board
-    version-again : (version : ℕ) → version < 2 ^ 32 → parse_in net (version_record net link version) ≡ Some (record { place = link; content = Publishes version })
+    version-again : (version : ℕ) → version < 2 ^ 32 → parse_in net (version_record net link version) ≡ Some (record { place = link; content = said.Version version })
     unfolding parse_in parse_fields told_link_of entry_link_of
     version-again version few = rw (number-again version few, number_of-own net.link_names network.outline.links_differ link inside, to, from) refl
 
-    row-again : (row : Row) → row.second < 2 ^ 32 → row.amount < 2 ^ 32 → parse_in net (row_record net link row) ≡ Some (record { place = link; content = Tells row })
+    row-again : (row : Row) → row.second < 2 ^ 32 → row.amount < 2 ^ 32 → parse_in net (row_record net link row) ≡ Some (record { place = link; content = said.Row row })
     unfolding parse_in parse_fields row_of told_link_of entry_link_of
     row-again row second amount = rw (number-again row.second second, number-again row.amount amount, number_of-own net.link_names network.outline.links_differ link inside, to, from) refl
 
@@ -97,19 +97,19 @@ keeps-one net old new fields e reads is more = record {
   };
 }
 
-pub keeps-plan : (old new : KeptRecords) → new.all.items ≡ old.all.items ++ record { place = 0; content = Ignored } ∷ [] → (net : Net) (name x y z : List ℕ) → Keeps net old new ((codes "plan" ∷ name ∷ x ∷ y ∷ z ∷ []) ∷ [])
+pub keeps-plan : (old new : KeptRecords) → new.all.items ≡ old.all.items ++ record { place = 0; content = said.Plan } ∷ [] → (net : Net) (name x y z : List ℕ) → Keeps net old new ((codes "plan" ∷ name ∷ x ∷ y ∷ z ∷ []) ∷ [])
 keeps-plan old new more net name x y z = keeps-one net old new _ _ (plan-again net name x y z) tt more
 
 module _ (net : Net) (network : IsNetwork net) (old new : KeptRecords) where
   pub keeps-green : (node : ℕ) (green : Green) → node < length net.node_names → green.phase < 2 ^ 8 → green.from < 2 ^ 32 → green.to < 2 ^ 32
-      → new.all.items ≡ old.all.items ++ record { place = node; content = Shows green } ∷ [] → Keeps net old new (green_record net node green ∷ [])
+      → new.all.items ≡ old.all.items ++ record { place = node; content = said.Green green } ∷ [] → Keeps net old new (green_record net node green ∷ [])
   keeps-green node green inside phase from to more = keeps-one net old new _ _ (green-again net network node green inside phase from to) tt more
 
   module _ (link : ℕ) (inside : link < length net.link_names) (from : IsSome (link_at net link).from) (to : IsSome (link_at net link).to) where
-    pub keeps-version : (version : ℕ) → version < 2 ^ 32 → new.all.items ≡ old.all.items ++ record { place = link; content = Publishes version } ∷ [] → Keeps net old new (version_record net link version ∷ [])
+    pub keeps-version : (version : ℕ) → version < 2 ^ 32 → new.all.items ≡ old.all.items ++ record { place = link; content = said.Version version } ∷ [] → Keeps net old new (version_record net link version ∷ [])
     keeps-version version few more = keeps-one net old new _ _ (version-again net network link inside from to version few) tt more
 
-    pub keeps-row : (row : Row) → row.second < 2 ^ 32 → row.amount < 2 ^ 32 → new.all.items ≡ old.all.items ++ record { place = link; content = Tells row } ∷ [] → Keeps net old new (row_record net link row ∷ [])
+    pub keeps-row : (row : Row) → row.second < 2 ^ 32 → row.amount < 2 ^ 32 → new.all.items ≡ old.all.items ++ record { place = link; content = said.Row row } ∷ [] → Keeps net old new (row_record net link row ∷ [])
     keeps-row row second amount more = keeps-one net old new _ _ (row-again net network link inside from to row second amount) tt more
 
 -- nothing, and records after records
@@ -154,13 +154,13 @@ order-told net es (e ∷ told) some order all =
     (order-told net (es ++ e ∷ []) told (omega (arith, length-append es (e ∷ []))) (order-push net es e order (fits es some)) (All-tail (λ (e : Entry). IsOfAnswer e.content) e told all))
   where
     later : (first : Entry) (before : List Entry) (content : StateRecord) (place : ℕ) → IsOfAnswer content → FitsAfter net (first ∷ before) (record { place = place; content = content })
-    later first before (Begins second) place is = absurd is
-    later first before (Stands queue) place is = absurd is
-    later first before (Comes row) place is = absurd is
-    later first before (Shows green) place is = tt
-    later first before (Publishes version) place is = tt
-    later first before (Tells row) place is = tt
-    later first before Ignored place is = tt
+    later first before (said.Now second) place is = absurd is
+    later first before (said.Queue queue) place is = absurd is
+    later first before (said.Coming row) place is = absurd is
+    later first before (said.Green green) place is = tt
+    later first before (said.Version version) place is = tt
+    later first before (said.Row row) place is = tt
+    later first before said.Plan place is = tt
 
     fits : (es : List Entry) → 0 < length es → FitsAfter net es e
     fits [] some = absurd (omega arith)
@@ -239,9 +239,9 @@ module _ (net : Net) (asked : Asked) (bytes : List ℕ) (told : List (List (List
         late e is fits = not-first e.content is fits
           where
             not-first : (content : StateRecord) → IsOfAnswer content → ¬ IsFirstSaid net content
-            not-first (Begins second) is fits = is
-            not-first (Stands queue) is fits = is
-            not-first (Comes row) is fits = is
+            not-first (said.Now second) is fits = is
+            not-first (said.Queue queue) is fits = is
+            not-first (said.Coming row) is fits = is
             not-first _ is fits = fits
 
         by : (records : List (List (List ℕ))) → each (parse_in net) records ≡ Some kept.all.items → told ≡ records → IsTextFaultWith net asked told bytes (Time 1)

@@ -12,7 +12,7 @@ use Rattle.net_parts.specs.Numbers.{Net}
 use Rattle.road_net.specs.Network.{IsNetwork}
 use Rattle.round_states.specs.declared.entries.Entry.{Entry}
 use Rattle.round_states.specs.declared.entries.StateRecord.{StateRecord}
-use Rattle.round_states.specs.declared.entries.StateRecord.TheVariants.{Begins, Shows, Stands, Comes, Publishes, Tells, Ignored}
+use Rattle.round_states.specs.declared.entries.StateRecord.TheVariants as said
 use Rattle.round_states.specs.Order.{AreInOrder, FitsAfter, IsBegin, IsFirstSaid, begin_said, now_of}
 use Rattle.round_states.specs.States.{begin_of}
 
@@ -34,13 +34,13 @@ order-middle net front e back order =
     subst (λ l. FitsAfter net l e) same (subst (FitsAfter net (take (length front) (front ++ e ∷ back))) (get_or-append_seam front e back e) (order (length front) e below))
 
 first-begin : (net : Net) (content : StateRecord) → IsFirstSaid net content → IsBegin net (begin_said content)
-first-begin net (Begins second) is = is
-first-begin net (Shows green) is = absurd is
-first-begin net (Stands queue) is = absurd is
-first-begin net (Comes row) is = absurd is
-first-begin net (Publishes version) is = absurd is
-first-begin net (Tells row) is = absurd is
-first-begin net Ignored is = absurd is
+first-begin net (said.Now second) is = is
+first-begin net (said.Green green) is = absurd is
+first-begin net (said.Queue queue) is = absurd is
+first-begin net (said.Coming row) is = absurd is
+first-begin net (said.Version version) is = absurd is
+first-begin net (said.Row row) is = absurd is
+first-begin net said.Plan is = absurd is
 
 -- a round begins when records in order say so
 pub begin-now : (net : Net) → IsNetwork net → (es : List Entry) → AreInOrder net es → IsBegin net (now_of es)

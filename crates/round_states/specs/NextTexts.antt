@@ -7,7 +7,7 @@ use Rattle.record_text.specs.Records.{records_of}
 use Rattle.round_states.specs.declared.asked.Asked.{Asked}
 use Rattle.round_states.specs.declared.entries.Entry.{Entry}
 use Rattle.round_states.specs.declared.entries.StateRecord.{StateRecord}
-use Rattle.round_states.specs.declared.entries.StateRecord.TheVariants.{Begins, Stands, Comes}
+use Rattle.round_states.specs.declared.entries.StateRecord.TheVariants as said
 use Rattle.round_states.specs.declared.faults.StateFault.{StateFault}
 use Rattle.round_states.specs.declared.states.RoundState.{RoundState}
 use Rattle.round_states.specs.declared.kept_records.KeptRecords.{KeptRecords}
@@ -17,9 +17,9 @@ use Rattle.round_states.specs.Texts.{form}
 
 -- an answer tells neither when a round begins nor what is sensed
 abbrev pub IsOfAnswer : StateRecord → Type 0
-IsOfAnswer (Begins second) = ⊥
-IsOfAnswer (Stands queue) = ⊥
-IsOfAnswer (Comes row) = ⊥
+IsOfAnswer (said.Now second) = ⊥
+IsOfAnswer (said.Queue queue) = ⊥
+IsOfAnswer (said.Coming row) = ⊥
 IsOfAnswer _ = Unit {0}
 
 -- all that is kept is of an answer

@@ -4,7 +4,7 @@ use Rattle.net_parts.specs.Numbers.{Net}
 use Rattle.net_parts.specs.Outline.{known_seconds, link_at}
 use Rattle.round_states.specs.declared.entries.Entry.{Entry}
 use Rattle.round_states.specs.declared.entries.StateRecord.{StateRecord}
-use Rattle.round_states.specs.declared.entries.StateRecord.TheVariants.{Begins, Comes}
+use Rattle.round_states.specs.declared.entries.StateRecord.TheVariants as said
 
 -- a round of the network begins in this second: one that its files may name
 pub record IsBegin (net : Net) (second : ℕ) : Type 0 where
@@ -13,7 +13,7 @@ pub record IsBegin (net : Net) (second : ℕ) : Type 0 where
 
 -- the first record says when the round begins
 abbrev pub IsFirstSaid : Net → StateRecord → Type 0
-IsFirstSaid net (Begins second) = IsBegin net second
+IsFirstSaid net (said.Now second) = IsBegin net second
 IsFirstSaid net _ = ⊥
 
 -- what comes on a link in this second is within the seconds that it takes to travel it, from the begin of the round on
@@ -24,13 +24,13 @@ pub record IsOnTheWay (net : Net) (now link second : ℕ) : Type 0 where
 
 -- a later record says no begin, and of what comes only what is on the way
 abbrev pub IsLaterSaid : Net → ℕ → ℕ → StateRecord → Type 0
-IsLaterSaid net now place (Begins second) = ⊥
-IsLaterSaid net now place (Comes row) = IsOnTheWay net now place row.second
+IsLaterSaid net now place (said.Now second) = ⊥
+IsLaterSaid net now place (said.Coming row) = IsOnTheWay net now place row.second
 IsLaterSaid net now place _ = Unit {0}
 
 -- the second that is told as the begin of the round
 abbrev pub begin_said : StateRecord → ℕ
-begin_said (Begins second) = second
+begin_said (said.Now second) = second
 begin_said _ = 0
 
 -- the begin of the round, by the first record; 0 where there is none

@@ -10,8 +10,8 @@ use Rattle.net_parts.specs.Outline.{link_at, link_name_at, node_name_at}
 use Rattle.record_text.specs.Decimals.{number_of_digits}
 use Rattle.round_states.specs.declared.entries.Entry.{Entry}
 use Rattle.round_states.specs.declared.entries.StateRecord.{StateRecord}
-use Rattle.round_states.specs.declared.entries.StateRecord.TheVariants.{Begins, Shows, Stands, Comes, Publishes, Tells, Ignored}
-use Rattle.round_states.specs.declared.entries.Standing.{Standing}
+use Rattle.round_states.specs.declared.entries.StateRecord.TheVariants as said
+use Rattle.round_states.specs.declared.entries.Queue.{Queue}
 use Rattle.round_states.specs.declared.states.LinkBoard.{LinkBoard}
 
 -- the header
@@ -25,16 +25,16 @@ byte_of field = do
   if nat_lt n 256 then Some n else None
 
 -- a green of a phase, a begin and an end
-unfoldable pub shows_of : List ℕ → List ℕ → List ℕ → Option Green
-shows_of x y z = do
+unfoldable pub green_of : List ℕ → List ℕ → List ℕ → Option Green
+green_of x y z = do
   phase ← byte_of x
   from ← number_of_digits y
   to ← number_of_digits z
   Some (record { phase = phase; from = from; to = to })
 
 -- a queue of an amount and of how long it has stood
-unfoldable pub stands_of : List ℕ → List ℕ → Option Standing
-stands_of x y = do
+unfoldable pub queue_of : List ℕ → List ℕ → Option Queue
+queue_of x y = do
   amount ← number_of_digits x
   stood ← number_of_digits y
   Some (record { amount = amount; stood = stood })
@@ -49,13 +49,13 @@ row_of x y = do
 -- what the fields of a record say that are read, by its kind; one of what was planned says nothing
 unfoldable pub parse_fields : List ℕ → List ℕ → List ℕ → List ℕ → Option StateRecord
 parse_fields kind x y z =
-    if bytes_eq kind (codes "now") then (number_of_digits x >>= λ second. Some (Begins second))
-    else (if bytes_eq kind (codes "green") then (shows_of x y z >>= λ green. Some (Shows green))
-    else (if bytes_eq kind (codes "queue") then (stands_of x y >>= λ queue. Some (Stands queue))
-    else (if bytes_eq kind (codes "coming") then (row_of x y >>= λ row. Some (Comes row))
-    else (if bytes_eq kind (codes "version") then (number_of_digits x >>= λ version. Some (Publishes version))
-    else (if bytes_eq kind (codes "row") then (row_of x y >>= λ row. Some (Tells row))
-    else (if bytes_eq kind (codes "plan") then Some Ignored else None))))))
+    if bytes_eq kind (codes "now") then (number_of_digits x >>= λ second. Some (said.Now second))
+    else (if bytes_eq kind (codes "green") then (green_of x y z >>= λ green. Some (said.Green green))
+    else (if bytes_eq kind (codes "queue") then (queue_of x y >>= λ queue. Some (said.Queue queue))
+    else (if bytes_eq kind (codes "coming") then (row_of x y >>= λ row. Some (said.Coming row))
+    else (if bytes_eq kind (codes "version") then (number_of_digits x >>= λ version. Some (said.Version version))
+    else (if bytes_eq kind (codes "row") then (row_of x y >>= λ row. Some (said.Row row))
+    else (if bytes_eq kind (codes "plan") then Some said.Plan else None))))))
 
 -- a record has five fields
 abbrev pub parse : List (List ℕ) → Option StateRecord
@@ -81,13 +81,13 @@ told_link_of net name = do
 
 -- the number of the node or link of which a record with this name says this
 abbrev pub place_of : Net → StateRecord → List ℕ → Option ℕ
-place_of net (Begins second) name = Some 0
-place_of net (Shows green) name = number_of net.node_names name
-place_of net (Stands queue) name = entry_link_of net name
-place_of net (Comes row) name = entry_link_of net name
-place_of net (Publishes version) name = told_link_of net name
-place_of net (Tells row) name = told_link_of net name
-place_of net Ignored name = Some 0
+place_of net (said.Now second) name = Some 0
+place_of net (said.Green green) name = number_of net.node_names name
+place_of net (said.Queue queue) name = entry_link_of net name
+place_of net (said.Coming row) name = entry_link_of net name
+place_of net (said.Version version) name = told_link_of net name
+place_of net (said.Row row) name = told_link_of net name
+place_of net said.Plan name = Some 0
 
 -- what a record tells, and of which node or link
 unfoldable pub parse_in : Net → List (List ℕ) → Option Entry

@@ -15,8 +15,8 @@ use Rattle.round_states.specs.declared.asked.Asked.{Asked}
 use Rattle.round_states.specs.declared.asked.Asked.TheVariants.{AllNodes, OneNode}
 use Rattle.round_states.specs.declared.entries.Entry.{Entry}
 use Rattle.round_states.specs.declared.entries.StateRecord.{StateRecord}
-use Rattle.round_states.specs.declared.entries.StateRecord.TheVariants.{Shows, Stands, Comes, Publishes, Tells}
-use Rattle.round_states.specs.declared.entries.Standing.{Standing}
+use Rattle.round_states.specs.declared.entries.StateRecord.TheVariants as said
+use Rattle.round_states.specs.declared.entries.Queue.{Queue}
 use Rattle.round_states.specs.declared.states.LinkBoard.{LinkBoard}
 use Rattle.round_states.specs.declared.states.RoundState.{RoundState}
 use Rattle.round_states.specs.Order.{AreInOrder, now_of}
@@ -25,23 +25,23 @@ use Rattle.round_states.specs.StateRecords.{parse_in, header}
 
 -- the green, the queue, what comes, the version or the row that is said, each where this is what is said
 abbrev pub green_said : StateRecord → Option Green
-green_said (Shows green) = Some green
+green_said (said.Green green) = Some green
 green_said _ = None
 
-abbrev pub queue_said : StateRecord → Option Standing
-queue_said (Stands queue) = Some queue
+abbrev pub queue_said : StateRecord → Option Queue
+queue_said (said.Queue queue) = Some queue
 queue_said _ = None
 
 abbrev pub coming_said : StateRecord → Option Row
-coming_said (Comes row) = Some row
+coming_said (said.Coming row) = Some row
 coming_said _ = None
 
 abbrev pub version_said : StateRecord → Option ℕ
-version_said (Publishes version) = Some version
+version_said (said.Version version) = Some version
 version_said _ = None
 
 abbrev pub row_said : StateRecord → Option Row
-row_said (Tells row) = Some row
+row_said (said.Row row) = Some row
 row_said _ = None
 
 -- what a record says of this node or link, by one of these
@@ -53,11 +53,11 @@ abbrev pub all_said : {X : Type 0} → (StateRecord → Option X) → List Entry
 all_said of es place = filter_map (said_of of place) es
 
 -- what stands where no queue is told
-abbrev pub no_queue : Standing
+abbrev pub no_queue : Queue
 no_queue = record { amount = 0; stood = 0 }
 
 -- the queue of a link, and its version: the first that is told, and else 0
-abbrev pub queue_in : List Entry → ℕ → Standing
+abbrev pub queue_in : List Entry → ℕ → Queue
 queue_in es link = slice_index_or (all_said queue_said es link) 0 no_queue
 
 abbrev pub version_in : List Entry → ℕ → ℕ
@@ -107,7 +107,7 @@ abbrev pub GoesOn : Net → Asked → List Entry → ℕ → Type 0
 GoesOn net asked es node = IsAsked asked node ⊎ (0 < length (all_said green_said es node)) → IsLineAt (plan_at net node) (now_of es) (all_said green_said es node)
 
 -- a queue has stood for no more seconds than it can have by a second: none where there is no queue, and no more than there were
-pub record CanHaveStood (now : ℕ) (queue : Standing) : Type 0 where
+pub record CanHaveStood (now : ℕ) (queue : Queue) : Type 0 where
   pub some : 0 < queue.stood → 0 < queue.amount
   pub since : queue.stood ≤ now
 

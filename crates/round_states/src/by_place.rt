@@ -3,7 +3,7 @@ ghost use Rattle.std.specs.Prelude.{◌≡◌, [], IfOk, OnOk, length, map, slic
 ghost use Rattle.std.specs.List.{range_with_len};
 ghost use Rattle.round_states.specs.Readers.{IsByPlace, HasAllSaid, lists_of, with_said};
 
-use crate::entries::{Entry, Standing, StateRecord};
+use crate::entries::{Entry, Queue, StateRecord};
 use board_model::Row;
 use control_flow::greens::Green;
 use road_net::Network;
@@ -15,7 +15,7 @@ pub(crate) struct ByPlace {
     /// The greens of each node.
     pub greens: Vec<Vec<Green>>,
     /// The queues of each link.
-    pub queues: Vec<Vec<Standing>>,
+    pub queues: Vec<Vec<Queue>>,
     /// What comes on each link.
     pub coming: Vec<Vec<Row>>,
     /// The versions of each link.
@@ -125,7 +125,7 @@ impl RecordKind for Greens {
 
     fn value(content: &StateRecord) -> Option<Green> {
         match content {
-            StateRecord::Shows(green) => Some(*green),
+            StateRecord::Green(green) => Some(*green),
             _ => None,
         }
     }
@@ -137,13 +137,13 @@ struct Queues;
 impl RecordKind for Queues {
     ghost use Rattle.round_states.specs.Texts.{queue_said};
 
-    type Value = Standing;
+    type Value = Queue;
 
     ghost value_of = { queue_said };
 
-    fn value(content: &StateRecord) -> Option<Standing> {
+    fn value(content: &StateRecord) -> Option<Queue> {
         match content {
-            StateRecord::Stands(queue) => Some(*queue),
+            StateRecord::Queue(queue) => Some(*queue),
             _ => None,
         }
     }
@@ -161,7 +161,7 @@ impl RecordKind for Coming {
 
     fn value(content: &StateRecord) -> Option<Row> {
         match content {
-            StateRecord::Comes(row) => Some(*row),
+            StateRecord::Coming(row) => Some(*row),
             _ => None,
         }
     }
@@ -179,7 +179,7 @@ impl RecordKind for Versions {
 
     fn value(content: &StateRecord) -> Option<u32> {
         match content {
-            StateRecord::Publishes(version) => Some(*version),
+            StateRecord::Version(version) => Some(*version),
             _ => None,
         }
     }
@@ -197,7 +197,7 @@ impl RecordKind for Rows {
 
     fn value(content: &StateRecord) -> Option<Row> {
         match content {
-            StateRecord::Tells(row) => Some(*row),
+            StateRecord::Row(row) => Some(*row),
             _ => None,
         }
     }

@@ -11,7 +11,7 @@ use road_net::Network;
 
 /// A queue at the end of a link.
 #[derive(Debug, Clone, Copy, PartialEq, Eq)]
-pub(crate) struct Standing {
+pub(crate) struct Queue {
     /// What stands in it, in thousandths of a vehicle.
     pub amount: u32,
     /// For how many seconds it has stood.
@@ -22,19 +22,19 @@ pub(crate) struct Standing {
 #[derive(Debug, Clone, Copy, PartialEq, Eq)]
 pub(crate) enum StateRecord {
     /// The second in which the round begins.
-    Begins(u32),
+    Now(u32),
     /// A row of the timeline of a node.
-    Shows(Green),
+    Green(Green),
     /// The queue of a link.
-    Stands(Standing),
+    Queue(Queue),
     /// What comes on a link in a second.
-    Comes(Row),
+    Coming(Row),
     /// The version of the forecast of a link.
-    Publishes(u32),
+    Version(u32),
     /// A row of the forecast of a link.
-    Tells(Row),
-    /// Nothing: its kind is passed over.
-    Ignored,
+    Row(Row),
+    /// What was planned, which says nothing of a state.
+    Plan,
 }
 
 /// What a record says, and of which node or link: its number, and 0 where it says it of none.
@@ -51,10 +51,10 @@ pub(crate) fn place_of(net: &Network, content: &StateRecord, name: &[u8], near: 
     ensures { result ≡ place_of net.now content.now name.now }
 {
     match content {
-        StateRecord::Begins(_) | StateRecord::Ignored => Some(0),
-        StateRecord::Shows(_) => node_named(net, name),
-        StateRecord::Stands(_) | StateRecord::Comes(_) => entry_link(net, name, near),
-        StateRecord::Publishes(_) | StateRecord::Tells(_) => told_link(net, name, near),
+        StateRecord::Now(_) | StateRecord::Plan => Some(0),
+        StateRecord::Green(_) => node_named(net, name),
+        StateRecord::Queue(_) | StateRecord::Coming(_) => entry_link(net, name, near),
+        StateRecord::Version(_) | StateRecord::Row(_) => told_link(net, name, near),
     }
 }
 

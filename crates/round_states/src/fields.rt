@@ -1,9 +1,9 @@
 //! What the fields of a record tell.
 ghost use Rattle.std.specs.Prelude.{◌≡◌, ◌≢◌, [], ◌∷◌, MatchOption, None, Some, length};
 ghost use Rattle.csv.specs.Records.{fields_of};
-ghost use Rattle.round_states.specs.StateRecords.{byte_of, name_of, row_of, shows_of, stands_of, parse_fields, parse};
+ghost use Rattle.round_states.specs.StateRecords.{byte_of, name_of, row_of, green_of, queue_of, parse_fields, parse};
 
-use crate::entries::{Standing, StateRecord};
+use crate::entries::{Queue, StateRecord};
 use board_model::Row;
 use control_flow::greens::Green;
 use csv::ByteRecord;
@@ -25,33 +25,33 @@ fn said_by(kind: &[u8], x: &[u8], y: &[u8], z: &[u8]) -> Option<StateRecord>
     ensures { result ≡ parse_fields kind.now x.now y.now z.now }
 {
     if kind == b"now".as_slice() {
-        return Some(StateRecord::Begins(digits(x)?));
+        return Some(StateRecord::Now(digits(x)?));
     }
     if kind == b"green".as_slice() {
-        return Some(StateRecord::Shows(green(x, y, z)?));
+        return Some(StateRecord::Green(green(x, y, z)?));
     }
     if kind == b"queue".as_slice() {
-        return Some(StateRecord::Stands(standing(x, y)?));
+        return Some(StateRecord::Queue(queue(x, y)?));
     }
     if kind == b"coming".as_slice() {
-        return Some(StateRecord::Comes(row(x, y)?));
+        return Some(StateRecord::Coming(row(x, y)?));
     }
     if kind == b"version".as_slice() {
-        return Some(StateRecord::Publishes(digits(x)?));
+        return Some(StateRecord::Version(digits(x)?));
     }
     if kind == b"row".as_slice() {
-        return Some(StateRecord::Tells(row(x, y)?));
+        return Some(StateRecord::Row(row(x, y)?));
     }
     if kind == b"plan".as_slice() {
-        return Some(StateRecord::Ignored);
+        return Some(StateRecord::Plan);
     }
     None
 }
 
 /// The green of a phase, a begin and an end.
-#[tactic(auto, unfolding(crate::specs::StateRecords::shows_of))]
+#[tactic(auto, unfolding(crate::specs::StateRecords::green_of))]
 fn green(x: &[u8], y: &[u8], z: &[u8]) -> Option<Green>
-    ensures { result ≡ shows_of x.now y.now z.now }
+    ensures { result ≡ green_of x.now y.now z.now }
 {
     let phase = byte(x)?;
     let from = digits(y)?;
@@ -60,13 +60,13 @@ fn green(x: &[u8], y: &[u8], z: &[u8]) -> Option<Green>
 }
 
 /// The queue of an amount and of how long it has stood.
-#[tactic(auto, unfolding(crate::specs::StateRecords::stands_of))]
-fn standing(x: &[u8], y: &[u8]) -> Option<Standing>
-    ensures { result ≡ stands_of x.now y.now }
+#[tactic(auto, unfolding(crate::specs::StateRecords::queue_of))]
+fn queue(x: &[u8], y: &[u8]) -> Option<Queue>
+    ensures { result ≡ queue_of x.now y.now }
 {
     let amount = digits(x)?;
     let stood = digits(y)?;
-    Some(Standing { amount, stood })
+    Some(Queue { amount, stood })
 }
 
 /// The row of a second and an amount.

@@ -40,7 +40,7 @@ impl KeptRecords {
     {
         self.push(Entry {
             place: 0,
-            content: StateRecord::Ignored,
+            content: StateRecord::Plan,
         })
     }
 
@@ -88,7 +88,7 @@ impl KeptRecords {
         law_of_network(net);
         self.push(Entry {
             place: node,
-            content: StateRecord::Shows(green),
+            content: StateRecord::Green(green),
         })
     }
 
@@ -102,7 +102,7 @@ impl KeptRecords {
         law_of_network(net);
         self.push(Entry {
             place: link,
-            content: StateRecord::Publishes(version),
+            content: StateRecord::Version(version),
         })
     }
 
@@ -129,7 +129,7 @@ impl KeptRecords {
         law_of_network(net);
         self.push(Entry {
             place: link,
-            content: StateRecord::Tells(row),
+            content: StateRecord::Row(row),
         })
     }
 

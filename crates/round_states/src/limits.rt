@@ -10,7 +10,7 @@ ghost use Rattle.round_states.specs.Texts.{CanHaveStood, IsUntold, all_said, gre
 
 use crate::asked::Asked;
 use crate::by_place::{ByPlace, list_of};
-use crate::entries::{Entry, Standing};
+use crate::entries::{Entry, Queue};
 use crate::faults::StateFault;
 use crate::order::{now_of, round_of};
 use crate::senses::NO_QUEUE;
@@ -62,7 +62,7 @@ fn check_stood(
 }
 
 /// Whether the queue of a link has stood for no longer than it can have, where these are its queues.
-fn stood_in_time(entries: &[Entry], link: u32, queues: &[Standing]) -> bool
+fn stood_in_time(entries: &[Entry], link: u32, queues: &[Queue]) -> bool
     requires { queues.now ≡ all_said queue_said entries.now link }
     ensures { IsTrue result ↔ StoodInTime entries.now link }
 {
@@ -71,7 +71,7 @@ fn stood_in_time(entries: &[Entry], link: u32, queues: &[Standing]) -> bool
 }
 
 /// Whether a queue can have stood as long by a second.
-fn can_have_stood(now: u32, queue: Standing) -> bool
+fn can_have_stood(now: u32, queue: Queue) -> bool
     ensures { IsTrue result ↔ CanHaveStood now queue }
 {
     (queue.stood == 0 || queue.amount > 0) && queue.stood <= now

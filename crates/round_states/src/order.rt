@@ -39,7 +39,7 @@ fn begin_said(content: &StateRecord) -> u32
     ensures { result ≡ begin_said content.now }
 {
     match content {
-        StateRecord::Begins(second) => *second,
+        StateRecord::Now(second) => *second,
         _ => 0,
     }
 }
@@ -49,7 +49,7 @@ fn is_first(net: &Network, content: &StateRecord) -> bool
     ensures { IsTrue result ↔ IsFirstSaid net.now content.now }
 {
     match content {
-        StateRecord::Begins(second) => is_begin(net, *second),
+        StateRecord::Now(second) => is_begin(net, *second),
         _ => false,
     }
 }
@@ -59,8 +59,8 @@ fn is_later(net: &Network, now: u32, place: u32, content: &StateRecord) -> bool
     ensures { IsTrue result ↔ IsLaterSaid net.now now place content.now }
 {
     match content {
-        StateRecord::Begins(_) => false,
-        StateRecord::Comes(row) => is_on_the_way(net, now, place, row.second),
+        StateRecord::Now(_) => false,
+        StateRecord::Coming(row) => is_on_the_way(net, now, place, row.second),
         _ => true,
     }
 }

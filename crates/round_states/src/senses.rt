@@ -14,7 +14,7 @@ ghost use Rattle.round_states.specs.Texts.{IsSensedOnce, all_said, coming_in, co
 use crate::asked::Asked;
 use crate::boards::are_rising;
 use crate::by_place::{ByPlace, list_of};
-use crate::entries::{Entry, Standing};
+use crate::entries::{Entry, Queue};
 use crate::faults::StateFault;
 use crate::order::now_of;
 use board_model::Row;
@@ -48,7 +48,7 @@ pub(crate) fn check_senses(
 }
 
 /// Whether what is sensed of a link is told once, where these are its queues and what comes on it.
-fn is_sensed_once(entries: &[Entry], link: u32, queues: &[Standing], rows: &[Row]) -> bool
+fn is_sensed_once(entries: &[Entry], link: u32, queues: &[Queue], rows: &[Row]) -> bool
     requires queues { queues.now ≡ all_said queue_said entries.now link }
     requires rows { rows.now ≡ all_said coming_said entries.now link }
     ensures { IsTrue result ↔ IsSensedOnce entries.now link }
@@ -139,7 +139,7 @@ fn sense(
     net: &Network,
     entries: &[Entry],
     link: u32,
-    queues: &[Standing],
+    queues: &[Queue],
     rows: &[Row],
 ) -> Result<LinkSense, AllocError>
     requires now { now_of entries.now ≤ most_seconds }
@@ -159,7 +159,7 @@ fn sense(
 }
 
 /// What stands where no queue is told.
-pub(crate) const NO_QUEUE: Standing = Standing {
+pub(crate) const NO_QUEUE: Queue = Queue {
     amount: 0,
     stood: 0,
 };
