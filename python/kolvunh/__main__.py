@@ -4,6 +4,7 @@
     draw KIND FILES ..        greens as text; a street, queues or points as SVG; points as a table
     measures NET ARR REPORT   delay, level of service, queues, stops, split failures, arrivals on green: a table or CSV
     page NET ARR REPORT ..    a page for a browser: reports side by side, time and space, queues, splits, coordination
+    street FILE FOLDER        junctions in the words of the trade as a network, with places and what lanes hold
     summary NET ARR [REPORT]  a run in a dozen lines, in vehicles and seconds
     explain WORDS ..          calls the program by the words, and says of a refusal what is wrong and where
     to-log NET REPORT [ARR]   a report as a log of controllers' events
@@ -32,6 +33,7 @@ MODULES = {
     "explain": "explain.command",
     "measures": "measures",
     "page": "page",
+    "street": "street.command",
     "summary": "summary",
     "compare-seeds": "compare_seeds",
     "recommend": "recommend",

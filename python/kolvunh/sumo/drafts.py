@@ -14,14 +14,14 @@ from dataclasses import dataclass, field
 from pathlib import Path
 from typing import NamedTuple
 
+from ..capacities import STRAIGHT_SAT, TURNING, WALK_SAT, giving_sat
 from ..networks import GREAT, SMALL, Limits
 from ..records import rows_of, text_of
 from .demand import Vehicle
 from .groups import MOST_GROUPS, VEHICLE, WALK, Group, Node
 from .streets import Edge, Point
 
-STRAIGHT_SAT, TURNING, SPEED = 500, 0.9, 13.89  # thousandths of a vehicle a second by a lane at this speed; a turning lane's part of it
-GIVING_SAT, LEAST_SAT, WALK_SAT = 100, 200, 2000  # by a lane of vehicles that give way; by a link; of people on foot
+SPEED, LEAST_SAT = 13.89, 200  # metres a second at which a lane lets `STRAIGHT_SAT` through; thousandths a second by a link
 HEADWAY = 1.0  # seconds between two that drive
 GREATEST, LOSS, WAIT = 50, 2, 3600  # seconds, of each phase
 STEP, AFTER = 5, 120  # seconds; rounds after the last vehicle has started
@@ -272,7 +272,7 @@ class Draft:
         exits = {move.exit_lane.rpartition("_")[0] for move in giving}
         part = sum(count for key, count in link.turns.items() if self.links[key].edge in exits) / max(1, link.turns.total())
         lane = sat_of(group, self.speeds) / len(group.lanes)
-        return max(1, min(sat, round(sat / (part * lane / GIVING_SAT + 1 - part))))
+        return giving_sat(sat, lane, part)
 
     def rounds(self) -> int:
         """The rounds of a run, from the last arrival."""
