@@ -83,8 +83,8 @@ def read_street(place: Place) -> Street:
 
 
 def _junction(file: Reader, value: Any, path: Path, own: Mapping[str, Any]) -> Junction:
-    table = file.table(value, path, f"junction {path[1]}" if path else "", JUNCTION_KEYS)
-    name = table.get("name")
+    name = value.get("name") if isinstance(value, dict) else None
+    table = file.table(value, path, f"junction {name or path[1]}", JUNCTION_KEYS)
     if not isinstance(name, str) or not NAME.fullmatch(name):
         file.fail((*path, "name"), "junction", f"its name is {name!r}: write 1 to 11 of a to z, 0 to 9 and _ in quotes")
     where = f"junction {name}"

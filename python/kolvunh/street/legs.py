@@ -68,12 +68,13 @@ def _ends(path: Path) -> tuple[int, int]:
 
 
 def cross(one: Path, other: Path) -> bool:
-    """Whether two paths cross, or lead into one lane. Those of one leg cross where the left one goes farther to the right."""
+    """Whether two paths cross, or lead into one leg: there only one that turns right may keep to a lane of its own. Those of one leg cross
+    where the left one goes farther to the right."""
     if one.approach == other.approach:
         left, right = sorted((one, other), key=lambda path: path.lane)
         return left.lane != right.lane and ORDER.index(left.movement) > ORDER.index(right.movement)
     if one.leg == other.leg:
-        return one.target == other.target
+        return one.target == other.target or Movement.RIGHT not in (one.movement, other.movement)
     begin, end = _ends(one)
     span = (end - begin) % 360
     return ((_ends(other)[0] - begin) % 360 < span) != ((_ends(other)[1] - begin) % 360 < span)
