@@ -7,8 +7,9 @@ built. There are three ways: the Nth request for memory alone is refused; the Nt
 are; and, where the case starts threads, the Nth start of a thread and all later ones. N rises from
 1 until a run meets no refusal: by 1 up to --each, and then by 97. A run may end with status 6,
 nothing on standard output and no line or `signal: no memory` on standard error, or else as the case
-has it; of `serve` with `refused,signal: no memory` in place of any of its answers. Of a program of tests those are run whose name ends in `whichever_is_refused`, in the first
-way alone, and they have to pass.
+has it; of `serve` with `refused,signal: no memory` in place of any of its answers, and after one of
+these with refusals for what was then not told. Of a program of tests those are run whose name ends
+in `whichever_is_refused`, in the first way alone, and they have to pass.
 
 For each case and way a line says how many runs there were and how many requests the last one made;
 runs that end otherwise than they may are printed. The exit status is 0 where there is none, 1 where
@@ -68,9 +69,16 @@ def ending(end):
 
 
 def are_answers(out, wanted):
-    """Whether each answer of `serve` is as it is wanted, or says that memory ran out for it."""
-    pairs = zip_longest(SERVED.findall(out), SERVED.findall(wanted))
-    return b"".join(SERVED.findall(out)) == out and all(found in (want, NOT_SERVED) for found, want in pairs)
+    """Whether each answer of `serve` is as it is wanted, or says that memory ran out for it; a later one may then be refused for what was not told."""
+    answers = SERVED.findall(out)
+    if b"".join(answers) != out:
+        return False
+    is_lost = False
+    for found, want in zip_longest(answers, SERVED.findall(wanted)):
+        if found is None or found not in (want, NOT_SERVED) and not (is_lost and want is not None and found.startswith(b"refused,")):
+            return False
+        is_lost = is_lost or found == NOT_SERVED
+    return True
 
 
 class Case:
