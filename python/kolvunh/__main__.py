@@ -5,6 +5,7 @@
     measures NET ARR REPORT   delay, level of service, queues, stops, split failures, arrivals on green: a table or CSV
     page NET ARR REPORT ..    a page for a browser: reports side by side, time and space, queues, splits, coordination
     street FILE FOLDER        junctions in the words of the trade as a network, with places and what lanes hold
+    counts NET COUNTS FOLDER  turning counts as arrivals, and as the turning shares of a network
     summary NET ARR [REPORT]  a run in a dozen lines, in vehicles and seconds
     explain WORDS ..          calls the program by the words, and says of a refusal what is wrong and where
     to-log NET REPORT [ARR]   a report as a log of controllers' events
@@ -34,6 +35,7 @@ MODULES = {
     "measures": "measures",
     "page": "page",
     "street": "street.command",
+    "counts": "street.counts",
     "summary": "summary",
     "compare-seeds": "compare_seeds",
     "recommend": "recommend",

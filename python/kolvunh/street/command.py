@@ -6,10 +6,8 @@ Writes `net.toml`, `movements.csv` (which link serves which movement), `store.cs
 (where junctions and the open ends of links are, in metres) into FOLDER. What was computed is told. docs/FORMATS.md, "Junction file".
 """
 
-import csv
-import io
 import sys
-from collections.abc import Iterable, Sequence
+from collections.abc import Iterable
 from pathlib import Path
 
 from ..commands import Words, end
@@ -18,26 +16,15 @@ from ..records import plural
 from .draft import Draft, Drafter, exit_name, point_from
 from .junction_file import read_street
 from .plan import Street
-
-MOVEMENTS = ("junction", "approach", "movement", "link", "part", "leg")
-
-
-def records(header: Sequence[str], rows: Iterable[Sequence[object]]) -> str:
-    """A text of records."""
-    file = io.StringIO()
-    writer = csv.writer(file, lineterminator="\n")
-    writer.writerow(header)
-    writer.writerows(rows)
-    return file.getvalue()
+from .servings import PEOPLE, records, servings_text
 
 
 def write_draft(draft: Draft, street: Street, folder: Path) -> None:
     """Writes the files of a street into a folder."""
     folder.mkdir(parents=True, exist_ok=True)
     write_network(draft.network, folder / "net.toml")
-    rows = [(row.junction, row.approach, row.movement, row.link, f"{row.part:.6f}", row.leg) for row in draft.servings]
     texts = {
-        "movements.csv": records(MOVEMENTS, rows),
+        "movements.csv": servings_text(draft.servings),
         "store.csv": records(("link", "storage"), [(link, round(1000 * vehicles)) for link, vehicles in draft.storage.items()]),
         "places.csv": records(("kind", "name", "x", "y"), places_rows(draft, street)),
     }
@@ -51,7 +38,7 @@ def places_rows(draft: Draft, street: Street) -> list[tuple[str, str, str, str]]
     links = {link.name: link for link in draft.network.links}
     for row in draft.servings:
         approach = street.junctions[row.junction].approaches[row.approach]
-        if links[row.link].start is None and row.movement != "people":
+        if links[row.link].start is None and row.movement != PEOPLE:
             found[row.link] = point_from(draft.places[row.junction], row.approach, approach.distance)
     for name, junction in street.junctions.items():
         for leg, approach in junction.approaches.items():

@@ -2,7 +2,7 @@
 
 import math
 from collections import defaultdict
-from dataclasses import dataclass, field
+from dataclasses import dataclass, field, replace
 from itertools import combinations
 
 from ..capacities import STRAIGHT_SAT, TURNING, VEHICLE, WALK_SAT, WALKING, giving_sat
@@ -12,23 +12,12 @@ from .change_times import all_red_of, width_of, yellow_of
 from .greens import Group, Signals
 from .legs import COMPASS, SHORT, Movement, bound
 from .plan import Approach, Street
+from .servings import BUS, PEOPLE, Serving
 
 USUAL = {Movement.LEFT: 10.0, Movement.THROUGH: 80.0, Movement.RIGHT: 10.0}
 LEAST, GREATEST, LOSS, SPARE = 5, 50, 2, 60
 MOST_TRAVEL, MOST_LINKS, LEAVING = 120, 16, 10
 BUS_WEIGHT, BUS_PART = 5, 0.9  # a bus counts as so many vehicles; a bus lane lets so much of a lane through
-
-
-@dataclass(frozen=True)
-class Serving:
-    """A movement of a junction, and a link that serves it; `part` of the movement's vehicles take this link."""
-
-    junction: str
-    approach: str
-    movement: str
-    link: str
-    part: float
-    leg: str
 
 
 @dataclass
@@ -64,7 +53,7 @@ class Drafter:
         run = Run(**self.street.run)  # type: ignore[arg-type]
         network = Network(run, nodes, tuple(links), conflicts, 3)
         self._require_sizes(network)
-        return Draft(network, self.servings, self._storage(), places_of_street(self.street), self.told)
+        return Draft(network, [self._led_on(row) for row in self.servings], self._storage(), places_of_street(self.street), self.told)
 
     def _require_sizes(self, network: Network) -> None:
         for what, count, most in (("junctions", len(network.nodes), GREAT.nodes), ("links", len(network.links), GREAT.links)):
@@ -76,16 +65,21 @@ class Drafter:
         signals, found = self.signals[name], []
         for group in signals.groups:
             if group.walk:
-                found.append(Serving(name, group.approach, "people", group.name, 1.0, group.approach))
+                found.append(Serving(name, group.approach, PEOPLE, group.name, 1.0, group.approach, onward=(f"{name}_over",)))
             counts: dict[tuple[str, str], int] = defaultdict(int)
             for path in group.paths:
                 counts[path.movement, path.leg] += 1
             for (movement, leg), count in counts.items():
                 same = [path for other in signals.groups if other.is_bus == group.is_bus for path in other.paths]
                 whole = sum(path.approach == group.approach and path.movement == movement for path in same)
-                words = f"bus {movement}" if group.is_bus else str(movement)
-                found.append(Serving(name, group.approach, words, group.name, count / whole, leg))
+                words = f"{BUS}{movement}" if group.is_bus else str(movement)
+                gives = movement in giving_moves(signals, group)
+                found.append(Serving(name, group.approach, words, group.name, count / whole, leg, gives, len(group.lanes)))
         return found
+
+    def _led_on(self, row: Serving) -> Serving:
+        """A row with the links by which its vehicles go on."""
+        return row if row.onward else replace(row, onward=tuple(self.onward(row.junction, row.leg, row.movement.startswith(BUS))))
 
     def _node(self, name: str, signals: Signals) -> Node:
         junction = signals.junction
@@ -178,9 +172,9 @@ class Drafter:
 
     def _giving_part(self, signals: Signals, group: Group) -> float:
         """The part of a group's vehicles that has to give way in some stage."""
-        giving = {str(path.movement) for stage in group.giving for path in group.paths if signals.giving[stage].get(path)}
+        giving = giving_moves(signals, group)
         moves = self._moves_of(signals.junction.name, group)
-        return sum(part for (movement, _), part in moves.items() if movement.removeprefix("bus ") in giving)
+        return sum(part for (movement, _), part in moves.items() if movement.removeprefix(BUS) in giving)
 
     def _turns(self, name: str, group: Group) -> tuple[Turn, ...]:
         """Where a group's vehicles go on, in thousandths."""
@@ -197,8 +191,8 @@ class Drafter:
         if following is None:
             return {exit_name(name, leg): 1.0}
         back = next(other for other in self.street.junctions[following].approaches.values() if other.next == name)
-        rows = [row for row in self.servings if (row.junction, row.approach) == (following, back.leg) and row.movement != "people"]
-        buses = [row for row in rows if row.movement.startswith("bus")]
+        rows = [row for row in self.servings if (row.junction, row.approach) == (following, back.leg) and row.movement != PEOPLE]
+        buses = [row for row in rows if row.movement.startswith(BUS)]
         if is_bus and buses:
             return {row.link: 1 / len(buses) for row in buses}
         parts = self.parts(following, back.leg)
@@ -244,6 +238,11 @@ def name_groups(name: str, signals: Signals) -> None:
         taken.add(group.name)
         if len(group.name) > 16:
             raise signals.fail(signals.junction.line, f"approach {group.approach}", f"the link {group.name} would have more than 16 letters: take a shorter name for the junction")
+
+
+def giving_moves(signals: Signals, group: Group) -> set[str]:
+    """The movements of a group that give way in some stage."""
+    return {str(path.movement) for stage in group.giving for path in group.paths if signals.giving[stage].get(path)}
 
 
 def conflicts_of(signals: Signals) -> list[tuple[Group, Group]]:
