@@ -81,3 +81,8 @@ class Measures:
     persons: float
     person_delay: float
     person_delay_each: float | None
+    lane_95: float | None = None
+    lane_most: float | None = None
+    metres_95: float | None = None
+    metres_most: float | None = None
+    full: float | None = None

@@ -1,10 +1,10 @@
 """Measures of a report, as traffic engineers take them: by movement, link, phase, approach, node and network, over any interval of a run.
 
     ./signal measures NET ARR REPORT [--by KIND] [--from SECOND] [--to SECOND] [--every SECONDS] [--csv] [--queues QUEUES]
-                                      [--approach NAME=LINK,LINK ..]
+                                      [--approach NAME=LINK,LINK ..] [--lanes LANES]
 
 The vehicles are moved under the report's greens by the rules of the world, and compared with the report's totals; with `--queues` they are
-taken from what the command `queues` wrote. What each measure means, with its unit: docs/FORMATS.md, "Measures". Nothing here is proved.
+taken from what the command `queues` wrote. Queues are by lane too where LANES, or `lanes.csv` beside NET, knows the lanes. What each measure means, with its unit: docs/FORMATS.md, "Measures". Nothing here is proved.
 """
 
 import argparse
@@ -19,6 +19,7 @@ from .arrivals import VEHICLE, Arrival, read_arrivals, require_links
 from .commands import Words, end
 from .faults import Fault
 from .flows import Flow, flows_of_greens, flows_of_queues, parts_of, require_totals
+from .lanes import Lanes, by_lane, lanes_beside, read_lanes
 from .measure_tables import csv_text, table_text
 from .measure_values import Lengths, Measures, level_of, percentile, quotient
 from .networks import Link, Network, network_faults, read_network
@@ -64,8 +65,8 @@ class Tally:
 class Study:
     """A report with what passed its links, ready to be measured."""
 
-    def __init__(self, network: Network, report: Records, flows: dict[str, Flow]) -> None:
-        self.network, self.report, self.flows = network, report, flows
+    def __init__(self, network: Network, report: Records, flows: dict[str, Flow], lanes: Lanes | None = None) -> None:
+        self.network, self.report, self.flows, self.lanes = network, report, flows, lanes or {}
         self.end = network.run.seconds
 
     @cached_property
@@ -205,7 +206,8 @@ class Study:
         both.add(tally)
         both.add(walkers)
         roads = [link for link in links if self.network.link_named(link).walk is None]
-        queue = [sum(each) for each in zip(*(self.flows[link].queue[begin + 1 : end + 1] for link in roads or links))]
+        queues = {link: self.flows[link].queue[begin + 1 : end + 1] for link in roads or links}
+        queue = [sum(each) for each in zip(*queues.values())]
         spans = self.spans(part, begin, end)
         failures = sum(any(self.is_failure(link, first, last) for link in of) for first, last, of in spans)
         lit, cycles = Lengths.of(self.lengths(part, begin, end)), Lengths.of(self.cycles_in(part, begin, end))
@@ -222,6 +224,7 @@ class Study:
             lit.mean, lit.least, lit.most, cycles.mean, cycles.least, cycles.most,
             max(self.dark_in(greens, begin, end) for greens in self.greens_of(part)), *plans, capacity, ratio,
             walkers.vehicles / VEHICLE, walkers.delay / VEHICLE, quotient(walkers.delay, walkers.vehicles),
+            *(by_lane({link: [each / VEHICLE for each in queue] for link, queue in queues.items()}, self.lanes) or ()),
         )  # fmt: skip
 
     def greens_of(self, part: Part) -> Sequence[Sequence[Green | Light]]:
@@ -305,10 +308,10 @@ def approaches_of(network: Network, named: dict[str, list[str]]) -> dict[str, li
 
 
 def study_of(
-    network: Network, arrivals: Place | Sequence[Arrival], report: Place | Records, queues: Place | Queues | None = None
+    network: Network, arrivals: Place | Sequence[Arrival], report: Place | Records, queues: Place | Queues | None = None, lanes: Lanes | None = None
 ) -> Study:
     """The study of a report; with queues the vehicles are taken from there, else they are moved under the report's greens. Each is a file or
-    what was read of one."""
+    what was read of one; with the lanes of links queues are by lane too."""
     read, place = (report, "the report") if isinstance(report, Records) else (read_report(report), report)
     read.require_network(network, place)
     if queues is None:
@@ -319,7 +322,7 @@ def study_of(
         require_totals(flows, read)
     except Fault as fault:
         raise Fault(f"{place}: {fault}") from None
-    return Study(network, read, flows)
+    return Study(network, read, flows, lanes)
 
 
 def _flows_under(network: Network, arrivals: Place | Sequence[Arrival], read: Records) -> dict[str, Flow]:
@@ -348,6 +351,7 @@ def parser() -> Words:
     words.add_argument("--every", type=int, metavar="SECONDS", help="a row for each piece of the interval that is so long")
     words.add_argument("--csv", action="store_true", help="write CSV")
     words.add_argument("--queues", metavar="QUEUES", help="what the command `queues` wrote of this report")
+    words.add_argument("--lanes", metavar="LANES", help="the lanes of links, as `street` writes them (lanes.csv beside NET, where it is there)")
     words.add_argument("--approach", type=approach_of, action="append", default=[], metavar="NAME=LINK,LINK", help="links of one approach")
     return words
 
@@ -360,7 +364,9 @@ def answer(words: Sequence[str] | None = None) -> str:
         form.error("--approach wants --by approach or --by all")
     kinds = KINDS if options.by == "all" else (options.by,)
     with network_faults(options.network):
-        study = study_of(read_network(options.network), options.arrivals, options.report, options.queues)
+        network = read_network(options.network)
+        lanes = read_lanes(options.lanes, network) if options.lanes else lanes_beside(network, options.network)
+        study = study_of(network, options.arrivals, options.report, options.queues, lanes)
         tables = [study.table(kind, options.begin, options.end, options.every, dict(options.approach)) for kind in kinds]
     return csv_text(row for rows in tables for row in rows) if options.csv else "\n".join(map(table_text, tables))
 

@@ -6,7 +6,7 @@ import io
 import math
 import unittest
 
-from kolvunh import Fault, measures, page, summary
+from kolvunh import Fault, lanes, measures, page, summary
 from kolvunh.flows import Passage, flows_of_greens, flows_of_queues
 from kolvunh.frames import frame_of
 from kolvunh.networks import read_network
@@ -98,6 +98,20 @@ class MeasuresTest(FilesTest):
         report = "kind,round,node,x,y,z,w\ngreen,,a,0,0,7,\ngreen,,a,1,12,17,\n"
         row = self.row(self.study(report, "second,link,amount\n0,sa,5000\n"), "link", "sa")
         self.assertEqual((row.capacity, row.v_c, row.delay_each, row.level), (1.5, 5 / 1.5, 8.5, "F"))
+
+    def test_queues_by_lane(self) -> None:
+        # Five vehicles of 7.5 metres: 37.5 in one lane; 10 of a bay and 27.5 beside it; and half of what is beyond both of two alike.
+        self.assertEqual([lanes.reach(5, of) for of in ((60,), (10, 60), (10, 10), (10, 60, 60))], [37.5, 27.5, 18.75, 13.75])
+        report = "kind,round,node,x,y,z,w\ngreen,,a,0,0,7,\ngreen,,a,1,12,17,\n"
+        study = self.study(report, "second,link,amount\n0,sa,5000\n")
+        study.lanes = lanes.read_lanes(self.file("link,lane,metres\nsa,1,10\nsa,2,60\n"), self.network)
+        sa, sb = (self.row(study, "link", name) for name in ("sa", "sb"))
+        # Of the queue of test_a_green_that_is_too_short, from moment 11 on 5 to 3.5 vehicles: the bay of 10 metres is full at ten moments of 20.
+        self.assertEqual((sa.lane_95, sa.lane_most, sa.metres_95, sa.metres_most, sa.full), (27.5 / 7.5, 27.5 / 7.5, 27.5, 27.5, 0.5))
+        self.assertEqual((sb.metres_most, self.row(study, "node", "a").metres_most), (None, 27.5))
+        self.assertEqual(measures.table_text([sa]).splitlines()[1].split()[-5:], ["3.7", "3.7", "28", "28", "50"])
+        with self.assertRaisesRegex(Fault, 'lanes:2: .*no link "zz"'):
+            lanes.read_lanes(self.file("link,lane,metres\nzz,1,60\n", "lanes"), self.network)
 
     def test_a_link_that_is_never_served(self) -> None:
         # Phase 1 of b has no green. Its vehicle stands from moment 11 on: through the second green of phase 0 and not the first.

@@ -68,7 +68,7 @@ class StreetTest(FilesTest):
         draft = Drafter(street).draft()
         write_draft(draft, street, self.folder / "one")
         write_draft(Drafter(street).draft(), street, self.folder / "two")
-        for name in ("net.toml", "movements.csv", "store.csv", "places.csv"):
+        for name in ("net.toml", "movements.csv", "lanes.csv", "store.csv", "places.csv"):
             self.assertEqual((self.folder / "one" / name).read_bytes(), (self.folder / "two" / name).read_bytes())
         self.assertEqual([node.name for node in draft.network.nodes], ["oak", "elm", "pine"])
         self.assertEqual({name: (round(x), round(y)) for name, (x, y) in draft.places.items()}, {"oak": (0, 0), "elm": (350, 0), "pine": (600, 0)})

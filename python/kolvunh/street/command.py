@@ -2,15 +2,17 @@
 
     ./signal street FILE FOLDER
 
-Writes `net.toml`, `movements.csv` (which link serves which movement), `store.csv` (what the lanes hold) and `places.csv`
-(where junctions and the open ends of links are, in metres) into FOLDER. What was computed is told. docs/FORMATS.md, "Junction file".
+Writes `net.toml`, `movements.csv` (which link serves which movement), `lanes.csv` (the lanes of each link),
+`store.csv` (what they hold) and `places.csv` (where junctions and the open ends of links are, in metres) into FOLDER. What was computed is told. docs/FORMATS.md, "Junction file".
 """
 
 import sys
 from collections.abc import Iterable
 from pathlib import Path
 
+from ..capacities import VEHICLE
 from ..commands import Words, end
+from ..lanes import HEADER as LANES
 from ..network_text import write_network
 from ..records import plural
 from .draft import Draft, Drafter, exit_name, point_from
@@ -25,7 +27,8 @@ def write_draft(draft: Draft, street: Street, folder: Path) -> None:
     write_network(draft.network, folder / "net.toml")
     texts = {
         "movements.csv": servings_text(draft.servings),
-        "store.csv": records(("link", "storage"), [(link, round(1000 * vehicles)) for link, vehicles in draft.storage.items()]),
+        "lanes.csv": records(LANES, [(link, number, f"{metres:g}") for link, lanes in draft.lanes.items() for number, metres in enumerate(lanes, 1)]),
+        "store.csv": records(("link", "storage"), [(link, round(1000 * sum(lanes) / VEHICLE)) for link, lanes in draft.lanes.items()]),
         "places.csv": records(("kind", "name", "x", "y"), places_rows(draft, street)),
     }
     for name, text in texts.items():

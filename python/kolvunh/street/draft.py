@@ -5,7 +5,7 @@ from collections import defaultdict
 from dataclasses import dataclass, field, replace
 from itertools import combinations
 
-from ..capacities import STRAIGHT_SAT, TURNING, VEHICLE, WALK_SAT, WALKING, giving_sat
+from ..capacities import STRAIGHT_SAT, TURNING, WALK_SAT, WALKING, giving_sat
 from ..faults import Fault
 from ..networks import GREAT, Conflict, Link, Network, Node, Phase, Run, Turn
 from .change_times import all_red_of, width_of, yellow_of
@@ -22,11 +22,11 @@ BUS_WEIGHT, BUS_PART = 5, 0.9  # a bus counts as so many vehicles; a bus lane le
 
 @dataclass
 class Draft:
-    """A network, what serves its movements, what each link holds in vehicles, where nodes are, and what was computed."""
+    """A network, what serves its movements, the metres of each link's lanes, where nodes are, and what was computed."""
 
     network: Network
     servings: list[Serving]
-    storage: dict[str, float]
+    lanes: dict[str, tuple[float, ...]]
     places: dict[str, tuple[float, float]]
     told: list[str] = field(default_factory=list)
 
@@ -53,7 +53,7 @@ class Drafter:
         run = Run(**self.street.run)  # type: ignore[arg-type]
         network = Network(run, nodes, tuple(links), conflicts, 3)
         self._require_sizes(network)
-        return Draft(network, [self._led_on(row) for row in self.servings], self._storage(), places_of_street(self.street), self.told)
+        return Draft(network, [self._led_on(row) for row in self.servings], self._lanes(), places_of_street(self.street), self.told)
 
     def _require_sizes(self, network: Network) -> None:
         for what, count, most in (("junctions", len(network.nodes), GREAT.nodes), ("links", len(network.links), GREAT.links)):
@@ -211,15 +211,14 @@ class Drafter:
         found = [Link(exit_name(name, leg), LEAVING, 5000, name) for leg in approaches if exit_name(name, leg) in used]
         return found + ([Link(f"{name}_over", 1, WALK_SAT, name)] if f"{name}_over" in used else [])
 
-    def _storage(self) -> dict[str, float]:
-        """How many vehicles the lanes of each link hold."""
+    def _lanes(self) -> dict[str, tuple[float, ...]]:
+        """The metres of each lane of the links for vehicles."""
         found = {}
         for signals in self.signals.values():
             for group in signals.groups:
                 if not group.walk:
                     approach = signals.junction.approaches[group.approach]
-                    lengths = (approach.lanes[number].bay or approach.distance for number in group.lanes)
-                    found[group.name] = sum(lengths) / VEHICLE
+                    found[group.name] = tuple(approach.lanes[number].bay or approach.distance for number in group.lanes)
         return found
 
 
