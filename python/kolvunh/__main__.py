@@ -6,6 +6,7 @@
     page NET ARR REPORT ..    a page for a browser: reports side by side, time and space, queues, splits, coordination
     street FILE FOLDER        junctions in the words of the trade as a network, with places and what lanes hold
     counts NET COUNTS FOLDER  turning counts as arrivals, and as the turning shares of a network
+    from-utdf FILE FOLDER     Synchro's UTDF as a network, arrivals and the fixed plan of its timings
     summary NET ARR [REPORT]  a run in a dozen lines, in vehicles and seconds
     explain WORDS ..          calls the program by the words, and says of a refusal what is wrong and where
     to-log NET REPORT [ARR]   a report as a log of controllers' events
@@ -36,6 +37,7 @@ MODULES = {
     "page": "page",
     "street": "street.command",
     "counts": "street.counts",
+    "from-utdf": "street.from_utdf",
     "summary": "summary",
     "compare-seeds": "compare_seeds",
     "recommend": "recommend",
