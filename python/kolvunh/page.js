@@ -12,17 +12,16 @@ const LINKS = ["#1b6e6e", "#c2571a", "#7a7a00", "#9c2c77", "#555555", "#2c8c3c"]
 // How lines are broken of the seventh link on, and of the thirteenth on
 const BREAKS = ["", "6 3", "2 3"];
 // Seconds a vehicle up to which a level of service goes, its name and its colour
-const LEVELS = [
-  [10, "A", "#1a9850"], [20, "B", "#91cf60"], [35, "C", "#d9ef8b"],
-  [55, "D", "#fee08b"], [80, "E", "#fc8d59"], [Infinity, "F", "#d73027"],
-];
+const COLOURS = ["#1a9850", "#91cf60", "#d9ef8b", "#fee08b", "#fc8d59", "#d73027"];
+const LEVELS = [...data.levels, [Infinity, "F"]].map((each, at) => [...each, COLOURS[at]]);
 const GREEN = "#009e73", RED = "#e8a58f";
 const chosen = { report: 0, from: 0, to: END, node: 0, link: -1, street: 0, route: null, back: true, rows: "nodes", sort: -1 };
 
 const escape = (text) => String(text).replace(/[&<>"]/g, (mark) => ({ "&": "&amp;", "<": "&lt;", ">": "&gt;", '"': "&quot;" })[mark]);
 const clock = (second) => `${Math.floor(second / 60)}:${String(Math.round(second % 60)).padStart(2, "0")}`;
-const level = (delay) => (delay === null ? null : LEVELS.find(([most]) => delay <= most));
-const fixed = (value, digits) => (value === null ? "-" : value.toFixed(digits));
+// The level of service of measures: of a single link, to which more comes than it lets through, the last one
+const level = ({ each, full, isSingle }) => (each === null ? null : isSingle && full > 1 ? LEVELS[LEVELS.length - 1] : LEVELS.find(([most]) => each <= most));
+const fixed = (value, digits) => (value === null ? "-" : value === Infinity ? "inf" : value.toFixed(digits));
 const share = (value) => (value === null ? "-" : `${Math.round(100 * value)} %`);
 const inkOn = (at) => ("AF".includes(at[1]) ? "#fff" : "#222");
 const divided = (amount, of) => (of ? amount / of : null);
@@ -43,8 +42,10 @@ class Run {
     this.name = report.name;
     this.greens = report.greens;
     this.none = report.none;
+    this.lights = report.lights;
     this.entered = report.entered.map(totals);
     this.left = report.left.map(totals);
+    this.lets = report.lets.map(totals);
     this.kept = new Map();
   }
   keep(key, make) {
@@ -75,16 +76,16 @@ class Run {
   greensOf(node, phase) {
     return this.keep(`greens ${node} ${phase}`, () => this.greens[node].filter((green) => green[0] === phase));
   }
-  // In how many of the first seconds a link is green, in all its greens and the changes between two of them; a crossing in its walk alone.
+  // All greens of a link, as those of phases
+  lightsOf(link) {
+    const lights = this.lights[link.number];
+    return lights ? this.keep(`lights ${link.number}`, () => lights.map(([from, to]) => [link.phase, from, to])) : this.greensOf(link.to, link.phase);
+  }
+  // In how many of the first seconds a link is green, in all its greens
   lit(link) {
     return this.keep(`lit ${link.number}`, () => {
       const lit = new Int32Array(END + 1), on = new Uint8Array(END);
-      this.greens[link.to].forEach(([phase, from, to], at, rows) => {
-        if (!link.greens.includes(phase)) return;
-        const goesOn = at + 1 < rows.length && link.greens.includes(rows[at + 1][0]);
-        const until = link.walk !== null ? Math.min(to, from + link.walk) : goesOn ? rows[at + 1][1] : to;
-        on.fill(1, from, Math.min(until, END));
-      });
+      for (const [, from, to] of this.lightsOf(link)) on.fill(1, from, Math.min(to, END));
       for (let second = 0; second < END; second++) lit[second + 1] = lit[second] + on[second];
       return lit;
     });
@@ -131,47 +132,65 @@ function isFailure(run, link, [, from, to]) {
   return true;
 }
 
-function signals(run, links, from, to) {
-  const keys = new Map(links.map((link) => [`${link.to} ${link.phase}`, link]));
-  const greens = [], cycles = [];
-  let failures = 0, unserved = 0;
-  const unmarked = [...keys.values()].filter((link) => !data.nodes[link.to].phases[link.phase].skip);
-  for (const { to: node, phase } of keys.values()) {
-    const served = links.filter((link) => link.to === node && link.phase === phase), all = run.greensOf(node, phase);
-    if (!all.some((green) => from < green[2] && green[1] < to)) {
-      const others = data.nodes[node].phases.map((_, other) => run.greensOf(node, other).filter((green) => from < green[2] && green[2] <= to));
-      for (const green of others.reduce((one, other) => (other.length > one.length ? other : one))) {
-        unserved++;
-        if (served.some((link) => isFailure(run, link.number, green))) failures++;
-      }
-    }
-    all.forEach((green, at) => {
-      if (from < green[2] && green[2] <= to) {
-        greens.push(green[2] - green[1]);
-        if (served.some((link) => isFailure(run, link.number, green))) failures++;
-      }
-      const counts = !unmarked.length || !data.nodes[node].phases[phase].skip;
-      if (at && counts && from < green[1] && green[1] <= to) cycles.push(green[1] - all[at - 1][1]);
-    });
+// The greens of links that end in an interval, each with the links whose queue makes it a failure: of a single link all its greens, and else those
+// of homes. Of a link without any those of the phase of its junction that has the most.
+function spans(run, links, from, to, isSingle) {
+  const endsHere = (green) => from < green[2] && green[2] <= to, found = [];
+  const homes = [...new Map(links.map((link) => [`${link.to} ${link.phase}`, link])).values()];
+  for (const { to: node, phase } of homes) {
+    const served = links.filter((link) => link.to === node && link.phase === phase);
+    const greens = isSingle ? run.lightsOf(links[0]) : run.greensOf(node, phase);
+    found.push(...greens.filter(endsHere).map((green) => ({ green, served, isOwn: true })));
+    const dark = served.filter((link) => run.lit(link)[to] === run.lit(link)[from]);
+    if (!dark.length) continue;
+    const others = data.nodes[node].phases.map((_, other) => run.greensOf(node, other).filter(endsHere));
+    const most = others.reduce((one, other) => (other.length > one.length ? other : one));
+    found.push(...most.map((green) => ({ green, served: dark, isOwn: false })));
   }
-  return { greens, cycles, failures, chances: greens.length + unserved };
+  return found;
 }
 
-// The measures of links together, as `./signal measures` takes them: docs/FORMATS.md, "Measures"
-function measures(run, links, from, to) {
+// From each begin of a green to the next one of its phase, of unmarked phases where there are any; of a single link from each of its greens
+function cyclesIn(run, links, from, to, isSingle) {
+  const homes = [...new Map(links.map((link) => [`${link.to} ${link.phase}`, link])).values()];
+  const unmarked = homes.filter((link) => !data.nodes[link.to].phases[link.phase].skip);
+  const rows = isSingle ? [run.lightsOf(links[0])] : (unmarked.length ? unmarked : homes).map((link) => run.greensOf(link.to, link.phase));
+  return rows.flatMap((row) => row.slice(1).map((green, at) => [row[at][1], green[1]]))
+    .filter(([, begin]) => from < begin && begin <= to).map(([before, begin]) => begin - before);
+}
+
+// What comes over what is let through, on the fullest link; null where nobody comes
+function fullest(run, links, from, to) {
+  const ratios = links.map(({ number }) => {
+    const comes = run.reached(number, to) - run.reached(number, from), lets = run.lets[number][to] - run.lets[number][from];
+    return comes ? (lets ? comes / lets : Infinity) : -1;
+  });
+  const most = Math.max(-1, ...ratios);
+  return most < 0 ? null : most;
+}
+
+// The measures of links together, or of a single one, as `./signal measures` takes them: docs/FORMATS.md, "Measures"
+function measures(run, links, from, to, isSingle = false) {
   const roads = links.filter((link) => link.walk === null), all = tally(run, roads, from, to), queues = new Float64Array(to - from);
+  const both = roads.length === links.length ? all : tally(run, links, from, to), ends = spans(run, links, from, to, isSingle);
   for (const link of roads.length ? roads : links) {
     const queue = run.queue(link.number);
     for (let at = 0; at < queues.length; at++) queues[at] += queue[from + 1 + at];
   }
   queues.sort();
   return {
+    isSingle,
     vehicles: all.vehicles / 1000,
     delay: all.delay / 1000,
     each: divided(all.delay, all.vehicles),
+    full: fullest(run, roads, from, to),
     stopped: divided(all.stopped, all.vehicles),
-    onGreen: divided(all.onGreen, all.vehicles), ratio: divided(all.onGreen, all.expected),
-    queue: [50, 95, 100].map((part) => percentile(queues, part) / 1000), ...signals(run, links, from, to),
+    onGreen: divided(both.onGreen, both.vehicles), ratio: divided(both.onGreen, both.expected),
+    queue: [50, 95, 100].map((part) => percentile(queues, part) / 1000),
+    greens: ends.filter(({ isOwn }) => isOwn).map(({ green: [, begin, end] }) => end - begin),
+    failures: ends.filter(({ green, served }) => served.some((link) => isFailure(run, link.number, green))).length,
+    chances: ends.length,
+    cycles: cyclesIn(run, links, from, to, isSingle),
   };
 }
 
@@ -327,7 +346,7 @@ const short = (numbers) => numbers.map((number) => number.toFixed(1)).join(" ");
 function titleOf(link, hourly, found) {
   const passed = `${link.name}: ${Math.round(hourly)} vehicles an hour`;
   if (!found || found.each === null) return passed;
-  return `${passed}, ${found.each.toFixed(1)} s a vehicle (${level(found.each)[1]}), queue up to ${found.queue[2].toFixed(1)}`;
+  return `${passed}, ${found.each.toFixed(1)} s a vehicle (${level(found)[1]}), queue up to ${found.queue[2].toFixed(1)}`;
 }
 
 // A link of the map as an arrow to the right of the line between two points; further ones between them are further to the right
@@ -342,8 +361,8 @@ function arrow(link, [x1, y1], [x2, y2], run, isRoute, lane = 0, taken = []) {
   }
   const passed = run.left[link.number][chosen.to] - run.left[link.number][chosen.from];
   const hourly = (passed * 3.6) / (chosen.to - chosen.from), wide = 1.5 + Math.min(5, hourly / 250);
-  const found = link.to >= 0 ? measures(run, [link], chosen.from, chosen.to) : null;
-  const colour = found ? (level(found.each) ?? [0, "", "#bbb"])[2] : "#bbb";
+  const found = link.to >= 0 ? measures(run, [link], chosen.from, chosen.to, true) : null;
+  const colour = found ? (level(found) ?? [0, "", "#bbb"])[2] : "#bbb";
   const back = [to[0] - ux * 7, to[1] - uy * 7], way = `M${short(from)}L${short(to)}`;
   const tip = `M${short(to)}L${short([back[0] - uy * 3.5, back[1] + ux * 3.5])}L${short([back[0] + uy * 3.5, back[1] - ux * 3.5])}Z`;
   const halo = isRoute ? `<path d="${way}" stroke="#36c" stroke-opacity=".35" stroke-width="${wide + 7}"/>` : "";
@@ -365,7 +384,7 @@ function nameLeg(labels, [x, y], dx, dy, enters, leaves) {
 }
 
 function junction(node, number, [x, y], found) {
-  const at = level(found.each), isChosen = number === chosen.node;
+  const at = level(found), isChosen = number === chosen.node;
   const title = `${node.name}: ${fixed(found.each, 1)} s a vehicle, queue up to ${found.queue[2].toFixed(1)} vehicles`;
   const rim = isChosen ? 'stroke="#36c" stroke-width="3.5"' : 'stroke="#333"';
   return `<g class="node" data-node="${number}" role="button" tabindex="0" aria-label="${escape(title)}"><title>${escape(title)}</title>
@@ -409,8 +428,8 @@ function drawMap() {
 
 // ---- Tables
 
-function badge(delay) {
-  const at = level(delay);
+function badge(found) {
+  const at = level(found);
   return at ? `<span class="level" style="background:${at[2]};color:${inkOn(at)}">${at[1]}</span>` : "-";
 }
 
@@ -419,7 +438,8 @@ const spread = (list) => (list.length ? `${Math.round(sum(list) / list.length)} 
 const LINES = [
   ["vehicles that came in", (m) => m.came.toFixed(1)],
   ["delay a vehicle that came in, s", (m) => fixed(divided(m.delay, m.came), 1), (m) => divided(m.delay, m.came)],
-  ["delay at each stop line, s", (m) => `${fixed(m.each, 1)} ${badge(m.each)}`, (m) => m.each],
+  ["delay at each stop line, s", (m) => `${fixed(m.each, 1)} ${badge(m)}`, (m) => m.each],
+  ["v/c of the fullest link", (m) => fixed(m.full, 2), (m) => m.full],
   ["stopped, of those at a stop line", (m) => share(m.stopped), (m) => m.stopped],
   ["all queues, 50 / 95 / most", (m) => m.queue.map((queue) => queue.toFixed(1)).join(" / "), (m) => m.queue[1]],
   ["split failures", (m) => `${m.failures} of ${m.chances}`, (m) => divided(m.failures, m.chances)],
@@ -460,14 +480,14 @@ function partsOf() {
 
 // The columns of a report in the table, by how many reports there are
 const COLUMNS = [
-  ["delay, s", (m) => `${fixed(m.each, 1)} ${badge(m.each)}`],
+  ["delay, s", (m) => `${fixed(m.each, 1)} ${badge(m)}`],
   [runs.length < 3 ? "queue 95" : "queue", (m) => m.queue[1].toFixed(1)],
   [runs.length < 3 ? "failures" : "fail", (m) => `${m.failures}/${m.chances}`],
-  ...(runs.length < 3 ? [["on green", (m) => share(m.onGreen)]] : []),
+  ...(runs.length < 3 ? [["v/c", (m) => fixed(m.full, 2)], ["on green", (m) => share(m.onGreen)]] : []),
 ];
 
 function drawTable() {
-  const measured = (links) => runs.map((run) => measures(run, links, chosen.from, chosen.to));
+  const measured = (links) => runs.map((run) => measures(run, links, chosen.from, chosen.to, chosen.rows === "links"));
   const rows = partsOf().map(([name, links, node]) => ({ name, node, all: measured(links) }));
   if (chosen.sort >= 0) rows.sort((one, other) => (other.all[chosen.sort].each ?? -1) - (one.all[chosen.sort].each ?? -1));
   const mark = (place) => (chosen.sort === place ? " \u25bc" : ""), colour = (at) => `style="color:${SERIES[at % SERIES.length]}"`;

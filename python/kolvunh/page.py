@@ -20,6 +20,7 @@ from typing import Any
 from .check_input import say_worst
 from .commands import Words, end
 from .faults import Fault
+from .measure_values import LEVELS
 from .measures import Study, study_of
 from .networks import Network, network_faults, read_network
 from .places import Places, places_of, streets_of
@@ -41,7 +42,8 @@ def pairs_of(totals: list[int]) -> list[int]:
 
 
 def report_data(name: str, study: Study) -> dict[str, Any]:
-    """What the page knows of a report: greens by node, rounds without a plan by node, and what entered and left each link."""
+    """What the page knows of a report: greens by node, rounds without a plan by node, and of each link what entered it, left it and could leave it,
+    and its own greens."""
     nodes, flows = study.network.nodes, study.flows.values()
     greens = study.report.greens_of()
     return {
@@ -52,7 +54,17 @@ def report_data(name: str, study: Study) -> dict[str, Any]:
         ] if study.report.plans else None,
         "entered": [pairs_of(flow.entered) for flow in flows],
         "left": [pairs_of(flow.left) for flow in flows],
+        "lets": [pairs_of(study.lets.get(name, [0])) for name in study.flows],
+        "lights": [lights_data(study, name) for name in study.flows],
     }  # fmt: skip
+
+
+def lights_data(study: Study, link: str) -> list[list[int]] | None:
+    """The greens of a link, from and to; none where they are those of its home."""
+    if link not in study.lights:
+        return None
+    own = [[light.begin, light.end] for light in study.lights[link]]
+    return own if own != [[green.begin, green.end] for green in study.greens[study.phase_of(link)]] else None
 
 
 def network_data(network: Network, places: Places, ends: Places) -> dict[str, Any]:
@@ -152,6 +164,7 @@ def answer(words: Sequence[str] | None = None) -> str:
     with network_faults(options.network):
         data = network_data(network, places_of(network, given), ends)
         data["reports"] = [report_data(name, study_of(network, options.arrivals, file)) for name, file in options.reports]
+    data["levels"] = LEVELS
     data["title"] = options.title or Path(options.network).stem
     data["about"] = (
         f"{Path(options.network).name} with {Path(options.arrivals).name}: {plural(len(network.nodes), 'junction')}, "

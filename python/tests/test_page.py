@@ -33,6 +33,15 @@ document.body.dataset.after = [chosen.node, chosen.report, chosen.from, chosen.t
 </script></body>"""
 
 
+# The level of each junction, and then of each link
+LEVELS = """<script>
+const shown = () => [...find("table").querySelectorAll("tbody tr")].map((row) => row.querySelector(".level")?.textContent ?? "-").join("");
+document.body.dataset.junctions = shown();
+chosen.rows = "links";
+drawTable();
+document.body.dataset.links = shown();
+</script></body>"""
+
 # A page in a frame of 390 pixels; then how wide it is laid out, how many texts of its map cover another or are cut, and the text of its heads.
 NARROW = """<!doctype html><body><iframe id="frame" style="width:390px;height:3000px;border:0"></iframe><script>
 const frame = document.getElementById("frame");
@@ -136,6 +145,16 @@ class PageTest(FilesTest):
         body = re.search(r"<body([^>]*)>", made)[1]
         self.assertLessEqual(int(re.search(r'data-wide="(\d+)"', body)[1]), 390)
         for said in ('data-cut="0"', 'data-covered="0"', 'data-images="0"', 'data-fault="none"'):
+            self.assertIn(said, body)
+
+    @unittest.skipUnless(CHROMIUM, "Chromium is not installed")
+    def test_a_link_to_which_more_comes_than_leaves(self) -> None:
+        # As in test_measures: five vehicles wait 8.5 seconds each, and 1.5 may leave. A junction goes by seconds alone.
+        greens = "kind,round,node,x,y,z,w\ngreen,,a,0,0,7,\ngreen,,a,1,12,17,\n"
+        texts = {"network.toml": NETWORK, "arrivals.csv": "second,link,amount\n0,sa,5000\n", "short.csv": greens}
+        made = self.dom(page.answer([str(self.file(text, name)) for name, text in texts.items()]).replace("</body>", LEVELS))
+        body = re.search(r"<body([^>]*)>", made)[1]
+        for said in ('data-junctions="A-"', 'data-links="F---"'):
             self.assertIn(said, body)
 
     def dom(self, text: str) -> str:
