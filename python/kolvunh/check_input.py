@@ -17,6 +17,7 @@ import sys
 from collections import defaultdict
 from collections.abc import Iterator, Sequence
 from dataclasses import dataclass
+from functools import cached_property
 
 from .arrivals import VEHICLE, Arrival, read_arrivals, require_links
 from .commands import Words, end
@@ -24,8 +25,9 @@ from .faults import Fault
 from .loads import best_loads, link_flows, rate_in, saturation
 from .networks import GREAT, MOST_SECONDS, Link, Network, Node, Phase, limits_of, network_faults, read_network
 from .plans import PlanRow, read_plan
-from .records import plural, quote
+from .records import Record, plural, quote, records_of, text_of
 from .signs import gives_way_in
+from .toml_lines import TomlLines
 
 LANE_MOST, LANE_LEAST = 1000, 100  # thousandths of a vehicle a second that one lane hardly lets through, or hardly so few
 HOUR = 3600
@@ -42,11 +44,17 @@ class Rank(enum.IntEnum):
     LOOK_AT = 2
 
 
+# Where something is: `arrivals` or `plan` and the number of a row from 0, or a path of the network file
+Where = tuple[str | int, ...]
+Said = tuple[Where, str]
+
+
 @dataclass(frozen=True)
 class Finding:
-    """What may make trouble, with what to write."""
+    """What may make trouble and where, with what to write."""
 
     rank: Rank
+    where: Where
     words: str
 
 
@@ -58,45 +66,72 @@ class Inputs:
     arrivals: Sequence[Arrival]
     flows: dict[str, float]
     plan: Sequence[PlanRow] = ()
+    files: tuple[str, str, str] = ("", "", "")
+
+    def place_of(self, where: Where) -> str:
+        """`FILE:LINE` of where something is; the file alone where it has no such line."""
+        kind, *row = where
+        file = self.files[("arrivals", "plan").index(kind) + 1 if kind in ("arrivals", "plan") else 0]
+        line = self._toml.line(where) if file == self.files[0] else next(itertools.islice(self._rows(file), 1 + int(row[0]), None), (None,))[0]
+        return f"{file}:{line}" if line else file
+
+    @cached_property
+    def _toml(self) -> TomlLines:
+        return TomlLines(text_of(self.files[0]))
+
+    @staticmethod
+    def _rows(file: str) -> Iterator[Record]:
+        return records_of(text_of(file))
 
 
-def lane_warnings(inputs: Inputs) -> Iterator[str]:
+def node_path(network: Network, node: Node, *more: str | int) -> Where:
+    """The path of a node in the network file, or of what is in it."""
+    return ("node", network.nodes.index(node), *more)
+
+
+def link_path(network: Network, link: Link, *more: str | int) -> Where:
+    """The path of a link in the network file, or of what is in it."""
+    return ("link", network.links.index(link), *more)
+
+
+def lane_warnings(inputs: Inputs) -> Iterator[Said]:
     """A `sat` that no lane has: most often one for an hour, or for several lanes. A crossing is no lane, and nothing waits where a link leads out."""
-    of_sat: dict[int, list[str]] = defaultdict(list)
+    of_sat: dict[int, list[Link]] = defaultdict(list)
     for link in inputs.network.links:
         if link.walk is None and link.end is not None and not LANE_LEAST <= link.sat <= LANE_MOST:
-            of_sat[link.sat].append(link.name)
-    for sat, names in of_sat.items():
-        links = f"link{'s' if len(names) > 1 else ''} {_some(names)}: sat = {sat} is"
+            of_sat[link.sat].append(link)
+    for sat, found in of_sat.items():
+        where = link_path(inputs.network, found[0], "sat")
+        links = f"link{'s' if len(found) > 1 else ''} {_some([link.name for link in found])}: sat = {sat} is"
         if sat > LANE_MOST:
             words = f"{links} {sat / 1000:g} vehicles a second, {sat * HOUR // 1000} an hour"
-            yield f"{words}: if {sat} an hour are meant, write sat = {round(sat * 1000 / HOUR)}; if these are several lanes, some 500 for each"
+            yield where, f"{words}: if {sat} an hour are meant, write sat = {round(sat * 1000 / HOUR)}; if these are several lanes, some 500 for each"
         else:
             words = f"{links} {sat * HOUR / 1000:g} vehicles an hour: is it one every {1000 / sat:g} seconds?"
-            yield f"{words} A lane lets some 500 through, which is 1800 an hour"
+            yield where, f"{words} A lane lets some 500 through, which is 1800 an hour"
 
 
-def amount_warnings(inputs: Inputs) -> Iterator[str]:
+def amount_warnings(inputs: Inputs) -> Iterator[Said]:
     """Amounts that look like counts of vehicles, and more in a second than its link lets through in a cycle."""
     amounts = [arrival.amount for arrival in inputs.arrivals]
     if amounts and max(amounts) <= MOST_COUNT:
         words = f"all amounts are at most {max(amounts)}, thousandths of a vehicle: if they count vehicles"
-        yield f"arrivals: {words}, write {VEHICLE} for each, as {VEHICLE * max(amounts)} for {max(amounts)}"
+        yield ("arrivals", amounts.index(max(amounts))), f"arrivals: {words}, write {VEHICLE} for each, as {VEHICLE * max(amounts)} for {max(amounts)}"
     elif amounts and len({arrival.second for arrival in inputs.arrivals}) == 1 and any(amount % VEHICLE for amount in amounts):
         words = f"all come in second {inputs.arrivals[0].second}, and {amounts[0]} is {amounts[0] / VEHICLE:g} of a vehicle: if these are volumes of an hour"
-        yield f"arrivals: {words}, write a row with {VEHICLE} for each vehicle, in the second in which it comes"
+        yield ("arrivals", 0), f"arrivals: {words}, write a row with {VEHICLE} for each vehicle, in the second in which it comes"
     for link, of_link in itertools.groupby(sorted(inputs.arrivals, key=lambda arrival: arrival.link), lambda arrival: arrival.link):
         most = max(of_link, key=lambda arrival: arrival.amount)
         if most.amount >= 20 * VEHICLE:
             words = f"{most.amount / VEHICLE:g} vehicles enter in second {most.second} alone"
-            yield f"link {link}: {words}: if they come in an interval, write a row for each second in which one comes"
+            yield ("arrivals", inputs.arrivals.index(most)), f"link {link}: {words}: if they come in an interval, write a row for each second in which one comes"
 
 
-def time_warnings(inputs: Inputs) -> Iterator[str]:
-    """Arrivals at or past the end of the run; and a run without any."""
+def time_warnings(inputs: Inputs) -> Iterator[Said]:
+    """Arrivals at or past the end of the run, a run without any, and one with as many rounds as seconds are meant."""
     run, arrivals = inputs.network.run, inputs.arrivals
     if not arrivals:
-        yield "arrivals: there are none: nobody enters"
+        yield ("arrivals", 0), "arrivals: there are none: nobody enters"
         return
     late, last = [arrival for arrival in arrivals if arrival.second >= run.seconds], max(arrival.second for arrival in arrivals)
     if late:
@@ -106,23 +141,26 @@ def time_warnings(inputs: Inputs) -> Iterator[str]:
         third = f", or write version = 3, with {GREAT.rounds} rounds at most" if inputs.network.version != 3 else ""
         how = f"write rounds = {rounds} or more" if rounds <= most else fewer + third
         words = f"{len(late)} of {plural(len(arrivals), 'row')} come at second {run.seconds}, the end of the run, or later, and never enter"
-        yield f"arrivals: {words}: {how}"
+        yield ("arrivals", arrivals.index(late[0])), f"arrivals: {words}: {how}"
+    if run.step > 1 and last < run.rounds <= 1.1 * last:
+        words = f"rounds = {run.rounds} of {run.step} seconds are {run.seconds} seconds, and the last vehicle enters in second {last}"
+        yield ("run", "rounds"), f"{words}: if {run.rounds} seconds are meant, write rounds = {-(-run.rounds // run.step)}"
 
 
-def load_warnings(inputs: Inputs, node: Node) -> Iterator[str]:
+def load_warnings(inputs: Inputs, node: Node) -> Iterator[Said]:
     """A node that has to carry about what it can, or more."""
     full = saturation(node, best_loads(inputs.network, node, inputs.flows))
     if full >= FULL:
-        yield f"{node.name} is at {full:.2f} of saturation" + (": more comes than can leave" if full >= 1 else ": queues will be long")
+        yield node_path(inputs.network, node), f"{node.name} is at {full:.2f} of saturation" + (": more comes than can leave" if full >= 1 else ": queues will be long")
 
 
-def phase_warnings(inputs: Inputs, node: Node) -> Iterator[str]:
+def phase_warnings(inputs: Inputs, node: Node) -> Iterator[Said]:
     """A phase that serves nobody in its least green, whose wait can't be kept, or that may be left out while somebody waits."""
-    yield from wait_warnings(node)
-    yield from green_warnings(node, best_loads(inputs.network, node, inputs.flows), inputs.network.run.recall is not None)
+    yield from wait_warnings(inputs.network, node)
+    yield from green_warnings(inputs.network, node, best_loads(inputs.network, node, inputs.flows))
 
 
-def street_warnings(inputs: Inputs, node: Node) -> Iterator[str]:
+def street_warnings(inputs: Inputs, node: Node) -> Iterator[Said]:
     """What may be dangerous on the street, or serve nobody."""
     yield from crossing_warnings(inputs.network, node)
     yield from merging_warnings(inputs.network, node)
@@ -130,13 +168,13 @@ def street_warnings(inputs: Inputs, node: Node) -> Iterator[str]:
     yield from walk_warnings(inputs.network, node)
 
 
-def wait_warnings(node: Node) -> Iterator[str]:
+def wait_warnings(network: Network, node: Node) -> Iterator[Said]:
     """A `wait` that is shorter than the red of its phase can be: then there is no plan at times, and queues grow."""
     for number, phase in enumerate(node.phases):
         red = longest_red(node, number)
         if phase.wait < red:
             words = f"wait = {phase.wait} is shorter than the longest red, {red}: where no order keeps it, there is no plan"
-            yield f"{node.name}: phase {number}: {words}; write wait = {red + 1} or more"
+            yield node_path(network, node, "phase", number, "wait"), f"{node.name}: phase {number}: {words}; write wait = {red + 1} or more"
 
 
 def longest_red(node: Node, number: int) -> int:
@@ -146,19 +184,20 @@ def longest_red(node: Node, number: int) -> int:
     return own.yellow + own.clear + sum(phase.greatest + phase.yellow + phase.clear for phase in others)
 
 
-def green_warnings(node: Node, loads: Sequence[float], has_recall: bool) -> Iterator[str]:
+def green_warnings(network: Network, node: Node, loads: Sequence[float]) -> Iterator[Said]:
     """A phase that may be left out while others are served, and one whose least green serves no queue."""
     for number, phase in enumerate(node.phases):
-        if phase.skip and loads[number] > 0 and not has_recall:
+        where = node_path(network, node, "phase", number)
+        if phase.skip and loads[number] > 0 and network.run.recall is None:
             words = "skip = true: a plan may leave it out time after time, and nothing bounds how long its vehicles wait"
             of_all = " of all its phases" if all(each.skip for each in node.phases) else ""
-            yield f"{node.name}: phase {number}: {words}; write recall or age in [run] or a weight of its links, or leave skip out{of_all}"
+            yield (*where, "skip"), f"{node.name}: phase {number}: {words}; write recall or age in [run] or a weight of its links, or leave skip out{of_all}"
         if phase.least <= phase.loss:
             words = f"least = {phase.least} is not above loss = {phase.loss}: a green of the least length serves no queue"
-            yield f"{node.name}: phase {number}: {words}; write least = {phase.loss + 1} or more"
+            yield (*where, "least"), f"{node.name}: phase {number}: {words}; write least = {phase.loss + 1} or more"
 
 
-def crossing_warnings(network: Network, node: Node) -> Iterator[str]:
+def crossing_warnings(network: Network, node: Node) -> Iterator[Said]:
     """Links that are never green together and in no conflict, though they seem to cross. Where they do, nothing is proved of them."""
     conflicts = {frozenset((pair.a, pair.b)) for pair in network.conflicts}
     found = [
@@ -169,7 +208,7 @@ def crossing_warnings(network: Network, node: Node) -> Iterator[str]:
     ]
     if found:
         words = f"never green together and in no conflict are {_some(found)}"
-        yield f"{node.name}: {words}; for each two that cross write [[conflict]] with a and b"
+        yield node_path(network, node), f"{node.name}: {words}; for each two that cross write [[conflict]] with a and b"
 
 
 def _links(network: Network, phase: Phase) -> list[Link]:
@@ -204,7 +243,7 @@ def is_one_approach(one: Link, other: Link) -> bool:
     return one.name.startswith(other.name) or other.name.startswith(one.name)
 
 
-def merging_warnings(network: Network, node: Node) -> Iterator[str]:
+def merging_warnings(network: Network, node: Node) -> Iterator[Said]:
     """Links of a network of version 3 that are green together and of which one leads into an exit of the other alone, where neither gives way."""
     if network.version != 3:
         return
@@ -218,27 +257,27 @@ def merging_warnings(network: Network, node: Node) -> Iterator[str]:
     ]
     if found:
         words = f"green together and into one exit are {_some(found)}, and neither gives way"
-        yield f"{node.name}: {words}; for each two that cross write yields in one of them, or a [[conflict]] and no common green"
+        yield node_path(network, node), f"{node.name}: {words}; for each two that cross write yields in one of them, or a [[conflict]] and no common green"
 
 
-def trapped_warnings(network: Network, node: Node) -> Iterator[str]:
+def trapped_warnings(network: Network, node: Node) -> Iterator[Said]:
     """A phase in which somebody gives way, and whose follower may be left out: who waits inside the junction as its green ends is trapped there."""
     for number, phase in enumerate(node.phases):
         after = (number + 1) % len(node.phases)
         waits = [link.name for link in network.links_to(node.name) if gives_way_in(network, link, number)]
         if waits and node.phases[after].skip and phase.clear < LEAST_CLEAR:
             words = f"{', '.join(waits)} may wait inside the junction as its green ends, and phase {after}, which follows, may be left out"
-            yield f"{node.name}: phase {number}: {words}; write clear = {LEAST_CLEAR} or more"
+            yield node_path(network, node, "phase", number, "clear"), f"{node.name}: phase {number}: {words}; write clear = {LEAST_CLEAR} or more"
 
 
-def walk_warnings(network: Network, node: Node) -> Iterator[str]:
+def walk_warnings(network: Network, node: Node) -> Iterator[Said]:
     """A crossing whose walk is over before a queue starts."""
     for link in network.links_to(node.name):
         for number in sorted(network.greens_of[link.name]) if link.walk is not None else ():
             loss = node.phases[number].loss
             if link.walk <= loss:
                 words = f"walk = {link.walk} is not above loss = {loss} of phase {number}: who waits there does not go in it"
-                yield f"link {link.name}: {words}; write walk = {loss + 1} or more"
+                yield link_path(network, link, "walk"), f"link {link.name}: {words}; write walk = {loss + 1} or more"
 
 
 def _some(found: Sequence[str]) -> str:
@@ -246,39 +285,53 @@ def _some(found: Sequence[str]) -> str:
     return f"{', '.join(found[:8])}{' ..' if len(found) > 8 else ''}"
 
 
-def plan_warnings(inputs: Inputs) -> Iterator[str]:
-    """What is wrong with a fixed plan: a phase with traffic and no row, greens too short for what comes, cycles that differ."""
+def _cycles(inputs: Inputs) -> dict[str, int]:
+    """The seconds of the cycle of each node of a fixed plan."""
     cycles: dict[str, int] = defaultdict(int)
-    greens = {(row.node, row.phase): row.green for row in inputs.plan}
     phases: dict[str, tuple[Phase, ...]] = {node.name: node.phases for node in inputs.network.nodes}
     for row in inputs.plan:
         phase = phases[row.node][row.phase]
         cycles[row.node] += row.green + phase.yellow + phase.clear
-    for link in inputs.network.links:
-        node = link.end if link.end in cycles else None
-        if node is not None and inputs.flows[link.name] > 0:
-            yield from _green_warnings(inputs, link, {phase: green for (of, phase), green in greens.items() if of == node}, cycles[node])
+    return cycles
+
+
+def _plan_row(inputs: Inputs, node: str) -> Where:
+    return "plan", next(number for number, row in enumerate(inputs.plan) if row.node == node)
+
+
+def plan_warnings(inputs: Inputs) -> Iterator[Said]:
+    """A phase with traffic that has no row in a fixed plan, and neighbours whose cycles differ."""
+    network, cycles = inputs.network, _cycles(inputs)
+    rows = {(row.node, row.phase) for row in inputs.plan}
+    for link in network.links:
+        if link.end in cycles and inputs.flows[link.name] > 0 and not any((link.end, phase) in rows for phase in network.greens_of[link.name]):
+            node, home = network.phase_of[link.name]
+            words = f"phase {home} has no row, and {link.name} brings {inputs.flows[link.name] * HOUR / VEHICLE:.0f} an hour, who wait to the end"
+            yield _plan_row(inputs, node.name), f"fixed plan: {node.name}: {words}; write one"
     told = set()
-    for link in inputs.network.links:
+    for link in network.links:
         pair = frozenset((link.start, link.end))
         if link.start in cycles and link.end in cycles and cycles[link.start] != cycles[link.end] and pair not in told:
             told.add(pair)
             words = f"{link.start} has a cycle of {cycles[link.start]} seconds and its neighbour {link.end} one of {cycles[link.end]}"
-            yield f"fixed plan: {words}: their offsets hold in the first cycle alone; write greens that make them alike"
+            more = "their offsets hold in the first cycle alone; write greens that make them alike"
+            yield _plan_row(inputs, link.start), f"fixed plan: {words}: {more}"
 
 
-def _green_warnings(inputs: Inputs, link: Link, greens: dict[int, int], cycle: int) -> Iterator[str]:
-    """A link that brings somebody and has no green in a fixed plan, or too little."""
-    network, hour = inputs.network, inputs.flows[link.name] * HOUR / VEHICLE
-    node, home = network.phase_of[link.name]
-    on = {phase: green for phase, green in greens.items() if phase in network.greens_of[link.name]}
-    if not on:
-        yield f"fixed plan: {node.name}: phase {home} has no row, and {link.name} brings {hour:.0f} an hour, who wait to the end; write one"
-        return
-    lets = sum(max(0, green - node.phases[phase].loss) * rate_in(network, link, phase, inputs.flows) for phase, green in on.items()) / cycle
-    if inputs.flows[link.name] > lets and link.walk is None:
-        words = f"{link.name} brings {hour:.0f} an hour, and its {sum(on.values())} of {cycle} seconds let {lets * HOUR / VEHICLE:.0f} through"
-        yield f"fixed plan: {node.name}: {words}: its queue grows; write a longer green"
+def short_warnings(inputs: Inputs) -> Iterator[Said]:
+    """A link that brings more than its greens in a fixed plan let through."""
+    network, cycles = inputs.network, _cycles(inputs)
+    greens = {(row.node, row.phase): row.green for row in inputs.plan}
+    for link in network.links:
+        if link.end not in cycles or link.walk is not None:
+            continue
+        node, _ = network.phase_of[link.name]
+        on = {phase: greens[node.name, phase] for phase in network.greens_of[link.name] if (node.name, phase) in greens}
+        lets = sum(max(0, green - node.phases[phase].loss) * rate_in(network, link, phase, inputs.flows) for phase, green in on.items()) / cycles[node.name]
+        brings = inputs.flows[link.name]
+        if on and brings > lets:
+            words = f"{link.name} brings {brings * HOUR / VEHICLE:.0f} an hour, and its {sum(on.values())} of {cycles[node.name]} seconds let {lets * HOUR / VEHICLE:.0f} through"
+            yield _plan_row(inputs, node.name), f"fixed plan: {node.name}: {words}: its queue grows; write a longer green"
 
 
 def findings(inputs: Inputs) -> list[Finding]:
@@ -286,18 +339,24 @@ def findings(inputs: Inputs) -> list[Finding]:
     nodes = inputs.network.nodes
     split = "no split: a queue that is longer than what is left of its green gives the green up; write split = true in [run]"
     ranked = (
-        (Rank.MEANT_OTHERWISE, (*lane_warnings(inputs), *amount_warnings(inputs), *time_warnings(inputs), *plan_warnings(inputs))),
+        (Rank.MEANT_OTHERWISE, (*lane_warnings(inputs), *amount_warnings(inputs), *plan_warnings(inputs), *time_warnings(inputs))),
+        (Rank.GROWS, short_warnings(inputs)),
         (Rank.GROWS, itertools.chain.from_iterable(load_warnings(inputs, node) for node in nodes)),
         (Rank.GROWS, itertools.chain.from_iterable(phase_warnings(inputs, node) for node in nodes)),
         (Rank.LOOK_AT, itertools.chain.from_iterable(street_warnings(inputs, node) for node in nodes)),
-        (Rank.LOOK_AT, () if inputs.network.run.split else (split,)),
+        (Rank.LOOK_AT, () if inputs.network.run.split else ((("run",), split),)),
     )
-    return sorted((Finding(rank, words) for rank, found in ranked for words in found), key=lambda finding: finding.rank)
+    return sorted((Finding(rank, *said) for rank, found in ranked for said in found), key=lambda finding: finding.rank)
 
 
 def warnings(inputs: Inputs) -> list[str]:
     """The same in words alone."""
     return [finding.words for finding in findings(inputs)]
+
+
+def warning_lines(inputs: Inputs) -> list[str]:
+    """The same in words, each with its file and line."""
+    return [f"{inputs.place_of(finding.where)}: {finding.words}" for finding in findings(inputs)]
 
 
 def require_phases(network: Network, place: str, rows: Sequence[PlanRow]) -> None:
@@ -313,13 +372,13 @@ def inputs_of(network: str, arrivals: str, plan: str | None = None) -> Inputs:
     net, rows, greens = read_network(network), read_arrivals(arrivals), read_plan(plan) if plan else []
     require_links(net, arrivals, rows)
     require_phases(net, plan or "", greens)
-    return Inputs(net, rows, link_flows(net, rows), greens)
+    return Inputs(net, rows, link_flows(net, rows), greens, (str(network), str(arrivals), str(plan or "")))
 
 
 def say_worst(network: str, arrivals: str, plan: str | None = None) -> None:
     """Writes the worst of what is found in files to standard error, in a line that says how to see all; nothing where nothing is found."""
     with network_faults(network):
-        found = warnings(inputs_of(network, arrivals, plan))
+        found = warning_lines(inputs_of(network, arrivals, plan))
     if found:
         more = f" (and {len(found) - 1} more)" if len(found) > 1 else ""
         files = shlex.join(filter(None, (network, arrivals, plan)))
@@ -349,7 +408,7 @@ def work() -> int:
         return 0
     with network_faults(options.network):
         inputs = inputs_of(options.network, options.arrivals, options.plan)
-        lines, found = load_lines(inputs), warnings(inputs)
+        lines, found = load_lines(inputs), warning_lines(inputs)
     print("\n".join([*lines, *(f"warning: {warning}" for warning in found)]))
     return 1 if found else 0
 

@@ -7,7 +7,7 @@ from ..records import plural, quote
 from .wording import meant, thousands
 
 # Words of ./signal alone, of which the program knows nothing: what they call, and those that have no word after them.
-TOOLS = ("check-input", "explain", "summary", "measures", "page", "to-log", "from-log", "compare-seeds", "retime", "street", "recommend")
+TOOLS = ("check-input", "explain", "summary", "measures", "page", "to-log", "from-log", "compare-seeds", "retime", "street", "counts", "from-utdf", "recommend")
 ALONE = ("--build", "--version", "--help", "-h", "help")
 NUMBER = re.compile(r"0|[1-9][0-9]*")
 FORMS: dict[str, tuple[str, ...]] = {
@@ -72,7 +72,7 @@ def usage(words: Sequence[str]) -> list[str]:
     form = form_of(words)
     if not form:
         options = [word for word in words[1:] if word.startswith("-")]
-        hint = f"; there are no options, as {quote(options[0])}" if options else ""
+        hint = f"; there are no options, as {quote(options[0])}, and the answer goes to standard output: add > FILE" if options else ""
         return [f"{command} has {plural(len(words) - 1, 'word')} after it, and the form is {forms}{hint}"]
     words_of = dict(zip(form[1:], words[1:]))
     fault = next((f"the last word is {quote(word)}, and has to be `{name}`" for name, word in words_of.items() if name.islower() and word != name), None)

@@ -272,7 +272,8 @@ def shape(net: NetworkFile, section: str, item: str, sub: str) -> list[str]:
 
 
 def _lacks(net: NetworkFile, key: str, is_newer: bool) -> str:
-    why = "; where the file says its version each such table has it" if is_newer else ""
+    usual = {"skip": "skip = false", "weight": "weight = 1"}.get(key)
+    why = f"; where the file says its version each such table has it, {usual} where nothing is meant by it" if is_newer else ""
     return f"the key {key} is missing{why}"
 
 
@@ -313,6 +314,8 @@ def _kind_hint(section: str, key: str, found: Any) -> str:
         return f" of thousandths: write {round(1000 * found)}"
     if isinstance(found, float) and key in ("yellow", "clear", "loss") and 0 < found < 10:
         return f" of seconds: write {math.ceil(found)}, the next one"
+    if isinstance(found, float) and key in ("travel", "least", "greatest", "wait", "walk", "cross") and 0.5 < found < 3600:
+        return f" of seconds: write {round(found)}"
     if isinstance(found, str) and found.isdigit() and kind == WHOLE:
         return ": write it without quotes"
     return ""
@@ -490,7 +493,14 @@ def shares(net: NetworkFile, item: str) -> list[str]:
     if total == 1000:
         return []
     words = " + ".join(str(turn["share"]) for turn in turns) + f" = {total}" if len(turns) > 1 else f"{total}"
-    return [net.say(path, f"its turns sum to {words}, and have to sum to 1000", "turn")]
+    return [net.say(path, f"its turns sum to {words}, and have to sum to 1000{_as_thousandths(turns, total)}", "turn")]
+
+
+def _as_thousandths(turns: list[dict[str, Any]], total: int) -> str:
+    """What to write for parts of a hundred, or of what was counted."""
+    if total < 1 or any(1000 * turn["share"] % total for turn in turns):
+        return ""
+    return ": in thousandths write " + enumeration([str(1000 * turn["share"] // total) for turn in turns])
 
 
 def phaseless(net: NetworkFile, item: str) -> list[str]:
@@ -503,7 +513,7 @@ def phaseless(net: NetworkFile, item: str) -> list[str]:
         return [net.say(path, f"it leaves the network and has no signal, and {lines} names it")] if homes else []
     node = table["to"]
     if not homes:
-        return [net.say(path, f"it ends at node {quote(node)}, and no phase of that node names it in links")]
+        return [net.say(path, f"it ends at node {quote(node)}, and no phase of that node names it in links: write {quote(name)} into those of its phase")]
     if len(homes) > 1:
         lines = lines if len(set(homes)) > 1 else f"in {net.name_of(homes[0])} on line {net.lines.line((*homes[0], 'links'))}"
         return [net.say(path, f"it is named {len(homes)} times, {lines}; it has to be in one phase, once")]
@@ -581,7 +591,7 @@ def walk(net: NetworkFile, item: str) -> list[str]:
     for green in net.greens(table["name"]):
         least = net.table(green)["least"]
         if least < wanted:
-            return [net.say(path, f"walk and cross are {wanted} seconds together, and {net.name_of(green)}, in which it is green, has least = {least}", "walk")]
+            return [net.say(path, f"walk and cross are {wanted} seconds together, and {net.name_of(green)}, in which it is green, has least = {least}: write least = {wanted} or more", "walk")]
     return []
 
 

@@ -1,5 +1,6 @@
 """What is wrong with files of records: arrivals, stores, fixed plans, histories and sheets."""
 
+import re
 from collections import Counter
 from collections.abc import Callable
 
@@ -61,8 +62,7 @@ def number_fault(name: str, cell: str, digits: int | None = 10, bits: int | None
     if not cell:
         return f"{name} is empty, and has to be a whole number"
     if not (cell.isascii() and cell.isdigit()):
-        blank = " (blanks are not trimmed)" if cell != cell.strip() else ""
-        return f"{name} is {quote(cell)}, and has to be a whole number{blank}"
+        return f"{name} is {quote(cell)}, and has to be a whole number{_whole_hint(name, cell)}"
     if digits is not None and len(cell) > digits:
         return f"{name} has {len(cell)} digits, and may have at most {digits}"
     if bits is not None and cell[0] == "0" and cell != "0":
@@ -70,6 +70,19 @@ def number_fault(name: str, cell: str, digits: int | None = 10, bits: int | None
     if bits is not None and int(cell) > BITS[bits]:
         return f"{name} is {thousands(int(cell))}, and may be at most {thousands(BITS[bits])}"
     return None
+
+
+def _whole_hint(name: str, cell: str) -> str:
+    """What to write for a number with a point, a time of day and an offset before the begin."""
+    if cell != cell.strip():
+        return " (blanks are not trimmed)"
+    if re.fullmatch(r"[0-9]+\.0+", cell):
+        return f": write {cell.partition('.')[0]}; pandas does so where its column is of whole numbers, as by `astype(int)`"
+    if re.fullmatch(r"[0-9]{1,2}:[0-9]{2}(:[0-9]{2})?", cell):
+        return " of seconds from the begin of the run: a time of day less that at which the run begins"
+    if name == "offset" and re.fullmatch(r"-[0-9]+", cell):
+        return f": write the seconds of the cycle less {cell[1:]}"
+    return ""
 
 
 def header_fault(rows: RecordFile) -> list[str]:
