@@ -25,7 +25,7 @@ from .commands import Words, end
 from .faults import Fault
 from .networks import MOST_SECONDS
 from .records import Place, quote, text_of
-from .sumo.demand import Vehicle
+from .sumo.demand import MOST_VEHICLES, Vehicle
 from .sumo.drafts import Draft, write_draft
 from .sumo.from_sumo import tell
 from .sumo.groups import Node
@@ -39,9 +39,19 @@ YELLOW = 3  # seconds
 def json_of(path: Place) -> Any:
     """What a file of JSON holds."""
     try:
-        return json.loads(text_of(path))
-    except (ValueError, RecursionError) as fault:
+        return json.loads(text_of(path), parse_constant=_no_number, parse_float=_finite)
+    except RecursionError as fault:
+        raise Fault(f"{path}: it is no JSON that can be read: lists or tables are in one another without an end") from fault
+    except ValueError as fault:
         raise Fault(f"{path}: it is no JSON: {fault}") from fault
+
+
+def _no_number(text: str) -> float:
+    raise ValueError(f"{text} is no number")
+
+
+def _finite(text: str) -> float:
+    return float(text) if math.isfinite(float(text)) else _no_number(text)
 
 
 def point_of(table: Mapping[str, Any]) -> Point:
@@ -150,10 +160,14 @@ class RoadNet:
             for flow in json_of(path):
                 route, begin, last = tuple(flow["route"]), float(flow["startTime"]), float(flow["endTime"])
                 self._require(path, route)
+                if begin < 0:
+                    raise ValueError(f"startTime is {begin:g}, and has to be 0 or more")
                 interval, last = max(0.1, float(flow["interval"])), last if last >= 0 else math.inf
                 count = math.floor((min(last, until) - begin) / interval) + 1 if begin <= min(last, until) else 0
-                seconds = [begin + interval * number for number in range(count)]
+                seconds = [begin + interval * number for number in range(min(count, MOST_VEHICLES + 1))]
                 found += [Vehicle(second, route) for second in seconds if second < until]
+                if len(found) > MOST_VEHICLES:
+                    raise Fault(f"{path}: it has more than {MOST_VEHICLES:,} vehicles: take a part of it")
                 if last >= until:
                     self.told[f"flows that go on after second {until:.0f}, of which what comes later is left out"] += 1
         except (KeyError, TypeError, ValueError) as fault:
@@ -177,7 +191,10 @@ def road_edge(road: Mapping[str, Any]) -> Edge:
     """A road as an edge; CityFlow numbers lanes from the left."""
     points = [point_of(point) for point in road["points"]]
     length = max(1.0, sum(math.dist(a, b) for a, b in itertools.pairwise(points)))
-    lanes = [Lane(f"{road['id']}_{n}", length, max(0.1, float(lane["maxSpeed"]))) for n, lane in enumerate(road["lanes"])]
+    slow = next((lane["maxSpeed"] for lane in road["lanes"] if float(lane["maxSpeed"]) <= 0), None)
+    if slow is not None:
+        raise ValueError(f"maxSpeed of road {quote(road['id'])} is {slow}, and has to be above 0")
+    lanes = [Lane(f"{road['id']}_{n}", length, float(lane["maxSpeed"])) for n, lane in enumerate(road["lanes"])]
     ways = direction(*points[:2]), direction(*points[-2:])
     return Edge(road["startIntersection"], road["endIntersection"], tuple(lanes), *ways)
 

@@ -4,6 +4,7 @@ Times are whole seconds. `sat` is in thousandths of a vehicle a second, and a sh
 """
 
 import contextlib
+import re
 import tomllib
 from collections.abc import Iterator
 from dataclasses import dataclass
@@ -178,13 +179,32 @@ def read_tables(place: Place) -> dict[str, Any]:
     text = text_of(place)
     try:
         text.encode()  # what was no UTF-8 in the file is refused here
-        return tomllib.loads(text)
+        return tables_of(text)
     except UnicodeEncodeError as fault:
         raise Fault(f"{place}: the file is not in UTF-8") from fault
     except tomllib.TOMLDecodeError as fault:
         raise Fault(f"{place}: {_no_toml(place, text, fault)}") from fault
-    except (ValueError, RecursionError) as fault:  # also of a number that is too long, and of lists in lists without an end
+    except ValueError as fault:
         raise Fault(f"{place}: {fault}") from fault
+
+
+# A key of so many parts with dots between them, for which Python's reader takes minutes
+_LONG_KEY = re.compile(r"""(?<![\w-])(?:(?:[\w-]++|"[^"\n]*+"|'[^'\n]*+')[ \t]*+\.[ \t]*+){64}""")
+
+
+def tables_of(text: str) -> dict[str, Any]:
+    """The tables of a TOML text; a ValueError says what is wrong with it, or what Python's reader can't take."""
+    long = _LONG_KEY.search(text)
+    if long:
+        raise ValueError(f"line {text.count(chr(10), 0, long.start()) + 1}: a key has more than 64 parts")
+    try:
+        return tomllib.loads(text)
+    except tomllib.TOMLDecodeError:
+        raise
+    except RecursionError as fault:
+        raise ValueError("lists or tables are in one another without an end") from fault
+    except ValueError as fault:
+        raise ValueError("a number has more digits than can be read") from fault
 
 
 def _no_toml(place: Place, text: str, fault: tomllib.TOMLDecodeError) -> str:
@@ -212,14 +232,14 @@ def read_network(place: Place) -> Network:
     except KeyError as fault:
         raise Fault(f"{place}: a table has no key {fault}") from fault
     except (TypeError, AttributeError) as fault:
-        raise Fault(f"{place}: a key has a value of another kind than docs/FORMATS.md says") from fault
+        raise Fault(f"{place}: a key has a value of another kind than docs/FORMATS.md says; `./signal explain upgrade {place}` says which") from fault
 
 
 def network_of(file: dict[str, Any]) -> Network:
     """The network of the tables that `tomllib` reads."""
     run = file["run"]
     return Network(
-        Run(*(run[key] for key in ("step", "look", "gap", "rounds")), run.get("split", False), *map(run.get, ("age", "hold", "recall", "act_step", "rate"))),
+        Run(*_whole(run, "step", "look", "gap", "rounds"), run.get("split", False), *map(run.get, ("age", "hold", "recall", "act_step", "rate"))),
         tuple(Node(node["name"], tuple(map(_phase, node["phase"]))) for node in file["node"]),
         tuple(map(_link, file["link"])),
         tuple(Conflict(pair["a"], pair["b"]) for pair in file.get("conflict", [])),
@@ -227,13 +247,20 @@ def network_of(file: dict[str, Any]) -> Network:
     )
 
 
+def _whole(table: dict[str, Any], *keys: str) -> list[int]:
+    """The whole numbers at these keys."""
+    if any(not isinstance(table[key], int) for key in keys):
+        raise TypeError
+    return [table[key] for key in keys]
+
+
 def _phase(table: dict[str, Any]) -> Phase:
-    times = (table[key] for key in ("least", "greatest", "yellow", "clear", "loss", "wait"))
+    times = _whole(table, "least", "greatest", "yellow", "clear", "loss", "wait")
     return Phase(*times, tuple(table["links"]), table.get("skip", False), tuple(table.get("also", [])))
 
 
 def _link(table: dict[str, Any]) -> Link:
-    turns = tuple(Turn(turn["exit"], turn["share"]) for turn in table.get("turn", []))
+    turns = tuple(Turn(turn["exit"], *_whole(turn, "share")) for turn in table.get("turn", []))
     ends = table.get("from"), table.get("to")
     own = table.get("weight", 1), tuple(table.get("yields", []))
-    return Link(table["name"], table["travel"], table["sat"], *ends, turns, *own, *map(table.get, ("yield_sat", "walk", "cross")))
+    return Link(table["name"], *_whole(table, "travel", "sat"), *ends, turns, *own, *map(table.get, ("yield_sat", "walk", "cross")))

@@ -28,6 +28,9 @@ from .records import Place, plural, quote, rows_of, text_of
 from .sides import sides_of
 
 
+FARTHEST = 1e9  # of a place from the middle, in its unit
+
+
 def part_of(name: str) -> str:
     """The text of a file of this package."""
     return resources.files(__package__).joinpath(name).read_text(encoding="utf-8")
@@ -122,7 +125,9 @@ def place_of(words: str) -> tuple[str, tuple[float, float]]:
     try:
         x, y = map(float, numbers.split(","))
     except ValueError:
-        raise argparse.ArgumentTypeError(f"{words!r} is not NODE=X,Y") from None
+        x = y = math.nan
+    if not (abs(x) <= FARTHEST and abs(y) <= FARTHEST):
+        raise argparse.ArgumentTypeError(f"{words!r} is not NODE=X,Y")
     return name, (x, -y)
 
 
@@ -135,9 +140,11 @@ def read_places(place: Place) -> tuple[Places, Places]:
             x, y = map(float, numbers)
         except ValueError:
             x = y = math.nan
-        if not (math.isfinite(x) and math.isfinite(y)):
-            raise Fault(f"{place}:{row.line}: x and y have to be numbers, and are {quote(','.join(numbers))}")
-        found.setdefault(kind, {})[name] = (x, -y)
+        if not (abs(x) <= FARTHEST and abs(y) <= FARTHEST):
+            raise Fault(f"{place}:{row.line}: x and y have to be numbers of at most 9 digits, and are {quote(','.join(numbers))}")
+        if kind not in found:
+            raise Fault(f"{place}:{row.line}: the kind is {quote(kind)}, and has to be node or link")
+        found[kind][name] = (x, -y)
     return found["node"], found["link"]
 
 

@@ -12,6 +12,7 @@ from .networks import Network
 from .records import Place, Record, number_in, quote, rows_of, text_of
 
 HEADER = ("kind", "round", "node", "x", "y", "z", "w")
+MOST_SECOND = 2**32 - 1
 
 
 @dataclass(frozen=True, slots=True)
@@ -157,7 +158,10 @@ def _plan(place: Place, row: Record) -> Plan:
 
 
 def _green(place: Place, row: Record) -> Green:
-    return Green(row.fields[2], *_numbers(place, row, phase=3, begin=4, end=5))
+    phase, begin, end = _numbers(place, row, phase=3, begin=4, end=5)
+    if not begin < end <= MOST_SECOND:
+        raise Fault(f"{place}:{row.line}: a green goes from second {begin} to {end}, and has to end after it begins, by second {MOST_SECOND:,}")
+    return Green(row.fields[2], phase, begin, end)
 
 
 def _link(place: Place, row: Record) -> LinkTotals:

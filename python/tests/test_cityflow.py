@@ -3,6 +3,7 @@
 import contextlib
 import io
 import json
+import math
 import shutil
 import sys
 import unittest
@@ -105,6 +106,10 @@ class CityFlowTest(FilesTest):
             (HERE / "roadnet.json", self.file(json.dumps(strange), "f.json"), 'a route names road "road_9_9_0"'),
             (HERE / "roadnet.json", self.file(json.dumps(gap), "g.json"), "no way leads there"),
             (HERE / "roadnet.json", self.file(json.dumps([{**flows[0], "route": []}]), "h.json"), "a flow has no road in its route"),
+            (HERE / "roadnet.json", self.file(json.dumps([{**flows[0], "startTime": -5}]), "i.json"), "startTime is -5"),
+            (HERE / "roadnet.json", self.file(json.dumps([{**flows[0], "interval": math.nan}]), "j.json"), "NaN is no number"),
+            (HERE / "roadnet.json", self.file(json.dumps([{**flows[0], "interval": 0, "endTime": -1}] * 3), "k.json"), "more than 2,000,000 vehicles"),
+            (self.file((HERE / "roadnet.json").read_text().replace('"maxSpeed": 11', '"maxSpeed": -1'), "l.json"), HERE / "flow.json", "maxSpeed of road"),
         ):
             status, err = self.command(roadnet, flow, out)
             self.assertEqual((status, err.count("\n")), (2, 1), err)

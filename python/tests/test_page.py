@@ -130,8 +130,9 @@ class PageTest(FilesTest):
         data = json.loads(re.search(r'<script id="data"[^>]*>(.*?)</script>', self.page("--places", str(places)))[1])
         self.assertEqual([(node["x"], node["y"]) for node in data["nodes"]], [(0, -1), (2, -3)])
         self.assertEqual(next(link["side"] for link in data["links"] if link["name"] == "sa"), round(-math.pi / 2, 3))
-        with self.assertRaisesRegex(Fault, "places:2: x and y have to be numbers"):
-            self.page("--places", str(self.file("kind,name,x,y\nnode,a,0,x\n", "places")))
+        for row, said in (("node,a,0,x", "2: x and y have to be numbers"), ("node,a,0,1e308", "2: x and y"), ("road,a,0,1", '2: the kind is "road"')):
+            with self.assertRaisesRegex(Fault, said):
+                self.page("--places", str(self.file(f"kind,name,x,y\n{row}\n", "places")))
 
     @unittest.skipUnless(CHROMIUM, "Chromium is not installed")
     def test_a_narrow_page_with_odd_names(self) -> None:

@@ -51,6 +51,7 @@ class ReportsTest(FilesTest):
         self.assertEqual(
             self.fault(head + "red,,a,0,0,5,\n"), ':2: the kind is "red", and has to be one of step, plan, green, link, total'
         )
+        self.assertIn(":2: a green goes from second 20 to 10,", self.fault(head + "green,,a,0,20,10,\n"))
         digits = ":2: phase of a green has 5000 digits, and may have at most 20"
         self.assertEqual(self.fault(head + f"green,,a,{5000 * '1'},0,5,\n"), digits)
         self.assertIn(": it is no file of records: field larger than", self.fault(head + 'green,,"a' + 200_000 * "x"))
@@ -135,7 +136,7 @@ class NetworksTest(FilesTest):
             read_network(self.file(worked.NETWORK.replace("sat = 500\n", "", 1)))
         with self.assertRaisesRegex(Fault, "at line 1, column 5"):
             read_network(self.file("[run\n"))
-        for text in (worked.NETWORK.replace("rounds = 4", f"rounds = {5000 * '4'}"), "a = " + 100_000 * "["):
+        for text in (worked.NETWORK.replace("rounds = 4", f"rounds = {5000 * '4'}"), "a = " + 100_000 * "[", 50_000 * "a." + "a = 1"):
             with self.assertRaisesRegex(Fault, "net.toml: "):
                 read_network(self.file(text, "net.toml"))
         with self.assertRaisesRegex(Fault, "another kind"):

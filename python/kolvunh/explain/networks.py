@@ -6,7 +6,7 @@ import tomllib
 from collections import Counter
 from typing import Any
 
-from ..networks import GREAT, MOST_SECONDS, SMALL_SECONDS, limits_of
+from ..networks import GREAT, MOST_SECONDS, SMALL_SECONDS, limits_of, tables_of
 from ..records import plural, quote, text_of
 from ..toml_lines import Path, TomlLines, stop_of
 from .wording import at, enumeration, meant, ordinal, thousands, value
@@ -187,9 +187,11 @@ def no_toml(file: str) -> list[str]:
     if other:
         return [at(file, 1, f"this is {other}, and a network file (TOML) is wanted here: are the words in another order?")]
     try:
-        tables = tomllib.loads(text)
+        tables = tables_of(text)
     except tomllib.TOMLDecodeError as fault:
         return _toml_fault(file, text, fault)
+    except ValueError as fault:
+        return [at(file, None, str(fault))]
     found = next((path for path, number in _numbers(tables, ()) if not -MOST_WHOLE - 1 <= number <= MOST_WHOLE), None)
     return [at(file, TomlLines(text).line(found), "a whole number has to be from -2^63 to 2^63 - 1")] if found else []
 

@@ -1,11 +1,12 @@
 """What is wrong with files of records: arrivals, stores, fixed plans, histories and sheets."""
 
+import csv
 import re
 from collections import Counter
 from collections.abc import Callable
 
 from ..arrivals import MOST_AMOUNT, MOST_SUM
-from ..records import Record, plural, quote, records_of, text_of
+from ..records import MOST_DIGITS, Record, plural, quote, records_of, text_of
 from .networks import BEGINS, HEADERS, NetworkFile, link_counts
 from .wording import at, enumeration, meant, ordinal, thousands
 
@@ -65,6 +66,8 @@ def number_fault(name: str, cell: str, digits: int | None = 10, bits: int | None
         return f"{name} is {quote(cell)}, and has to be a whole number{_whole_hint(name, cell)}"
     if digits is not None and len(cell) > digits:
         return f"{name} has {len(cell)} digits, and may have at most {digits}"
+    if bits is not None and len(cell) > MOST_DIGITS:
+        return f"{name} has {len(cell)} digits, and may be at most {thousands(BITS[bits])}"
     if bits is not None and cell[0] == "0" and cell != "0":
         return f"{name} is {quote(cell)}, and may have no zero in front"
     if bits is not None and int(cell) > BITS[bits]:
@@ -333,7 +336,10 @@ SHORT: dict[str, Callable[[RecordFile], list[str]]] = {"plan": plan_short, "hist
 
 def records_fault(file: str, kind: str, network: str, code: list[str]) -> list[str]:
     """What the code of a file of records of this kind means there."""
-    rows = RecordFile(file, kind, network)
+    try:
+        rows = RecordFile(file, kind, network)
+    except csv.Error:
+        return [at(file, None, f"a field has more than {thousands(csv.field_size_limit())} characters: is a quote not closed?")]
     if code == ["header"]:
         return header_fault(rows)
     if code == ["short"]:

@@ -64,7 +64,10 @@ class Log:
 
     def stamp(self, tenths: int) -> str:
         """The time stamp of a moment of the run."""
-        return stamp_text(self.begin + tenths * TENTH)
+        try:
+            return stamp_text(self.begin + tenths * TENTH)
+        except OverflowError as fault:
+            raise Fault(f"second {tenths // 10} of the run is after the year 9999: write an earlier --begin") from fault
 
 
 def stamp_text(moment: datetime) -> str:

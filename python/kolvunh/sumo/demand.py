@@ -18,6 +18,7 @@ from .groups import WALKING
 from .streets import Streets, as_sumo_writes, finite, number, quickest, read_root
 
 MOST_EDGES = 1000  # of a vehicle whose turns are drawn
+MOST_VEHICLES = 2_000_000  # of one run: their arrivals sum to as much as a run may have
 HOUR, DAY = 3600, 86_400  # seconds
 
 
@@ -202,6 +203,8 @@ class Demand:
             taken[place] -= total
             edges = self._drawn(second, ways[place][1][0]) if draws else ways[place][1]
             self.vehicles.append(Vehicle(second, edges))
+            if len(self.vehicles) > MOST_VEHICLES:
+                raise Fault(f"{self._path}: there are more than {MOST_VEHICLES:,} vehicles: take a part of them")
 
     def _drawn(self, second: float, edge: str) -> tuple[str, ...]:
         """A way from an edge on, its turns drawn."""
