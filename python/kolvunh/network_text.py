@@ -2,9 +2,9 @@
 
 import json
 from collections.abc import Iterator, Mapping
-from pathlib import Path
 from typing import Any
 
+from .files import write_file
 from .networks import Link, Network, Node, Phase, Run
 from .records import Place
 
@@ -22,7 +22,7 @@ def network_text(network: Network) -> str:
 
 def write_network(network: Network, place: Place) -> None:
     """Writes the network to a file, which the program then reads."""
-    Path(place).write_text(network_text(network), encoding="utf-8", newline="")
+    write_file(place, network_text(network))
 
 
 def _lines(keys: Mapping[str, Any]) -> Iterator[str]:

@@ -11,11 +11,11 @@ import argparse
 import sys
 from collections import Counter, defaultdict
 from collections.abc import Iterable, Sequence
-from pathlib import Path
 
 from ..arrivals import VEHICLE, Arrival, arrivals_text, read_arrivals, require_links
 from ..commands import Words, end
 from ..faults import Fault
+from ..files import write_file
 from ..flows import flows_of_greens
 from ..networks import Network, network_faults, read_network
 from ..records import plural, quote
@@ -164,7 +164,7 @@ def read(options: argparse.Namespace) -> tuple[str, Reading]:
     rows = reading.rows()
     if options.write:
         arrivals = reading.arrivals()
-        Path(options.write).write_text(arrivals_text(arrivals), encoding="utf-8")
+        write_file(options.write, arrivals_text(arrivals))
     if options.arrivals:
         arrivals = read_arrivals(options.arrivals)
         require_links(network, options.arrivals, arrivals)

@@ -12,8 +12,9 @@ from pathlib import Path
 
 from ..capacities import VEHICLE
 from ..commands import Words, end
+from ..files import write_files
 from ..lanes import HEADER as LANES
-from ..network_text import write_network
+from ..network_text import network_text
 from ..records import plural
 from .draft import Draft, Drafter, exit_name, point_from
 from .junction_file import read_street
@@ -23,16 +24,18 @@ from .servings import PEOPLE, records, servings_text
 
 def write_draft(draft: Draft, street: Street, folder: Path) -> None:
     """Writes the files of a street into a folder."""
-    folder.mkdir(parents=True, exist_ok=True)
-    write_network(draft.network, folder / "net.toml")
-    texts = {
+    write_files(folder, texts_of(draft, street))
+
+
+def texts_of(draft: Draft, street: Street) -> dict[str, str]:
+    """The files of a street by name."""
+    return {
+        "net.toml": network_text(draft.network),
         "movements.csv": servings_text(draft.servings),
         "lanes.csv": records(LANES, [(link, number, f"{metres:g}") for link, lanes in draft.lanes.items() for number, metres in enumerate(lanes, 1)]),
         "store.csv": records(("link", "storage"), [(link, round(1000 * sum(lanes) / VEHICLE)) for link, lanes in draft.lanes.items()]),
         "places.csv": records(("kind", "name", "x", "y"), places_rows(draft, street)),
     }
-    for name, text in texts.items():
-        (folder / name).write_text(text, encoding="utf-8", newline="")
 
 
 def places_rows(draft: Draft, street: Street) -> list[tuple[str, str, str, str]]:

@@ -13,7 +13,8 @@ from pathlib import Path
 from ..arrivals import arrivals_text
 from ..commands import Words, end
 from ..faults import Fault
-from ..network_text import write_network
+from ..files import write_files
+from ..network_text import network_text
 from ..networks import network_faults, read_network
 from ..records import Place, plural
 from .command import tell
@@ -70,9 +71,7 @@ def work() -> None:
     between = minute_in("--from", options.begin), minute_in("--to", options.stop)
     demand = demand_of(options.network, options.counts, options.movements, options.seed, between, names_in(options.name))
     tell(demand.told)
-    options.folder.mkdir(parents=True, exist_ok=True)
-    write_network(demand.network, options.folder / "net.toml")
-    (options.folder / "arrivals.csv").write_text(arrivals_text(demand.arrivals), encoding="utf-8", newline="")
+    write_files(options.folder, {"net.toml": network_text(demand.network), "arrivals.csv": arrivals_text(demand.arrivals)})
     vehicles = sum(arrival.amount for arrival in demand.arrivals) // 1000
     seconds = demand.network.run.seconds
     print(f"{plural(vehicles, 'vehicle')} in {seconds // 60} minutes: {options.folder / 'net.toml'}, {options.folder / 'arrivals.csv'}")

@@ -11,9 +11,10 @@ from pathlib import Path
 
 from ..arrivals import Arrival, arrivals_text
 from ..commands import Words, end
+from ..files import write_files
 from ..plans import PlanRow, plan_text
 from ..records import Place, plural
-from .command import tell, write_draft
+from .command import tell, texts_of
 from .draft import Draft, Drafter
 from .plan import Street
 from .utdf import Reader, name_of
@@ -51,9 +52,8 @@ def work() -> None:
     parser.add_argument("--seed", type=int, help="draw the vehicles by Poisson, from this number")
     options = parser.parse_args()
     found = imported(options.file, options.seed)
-    write_draft(found.draft, found.street, options.folder)
-    for name, text in (("arrivals.csv", arrivals_text(found.arrivals)), ("plan.csv", plan_text(found.plan))):
-        (options.folder / name).write_text(text, encoding="utf-8", newline="")
+    texts = {"arrivals.csv": arrivals_text(found.arrivals), "plan.csv": plan_text(found.plan)}
+    write_files(options.folder, texts_of(found.draft, found.street) | texts)
     tell(found.told)
     net = found.draft.network
     print(f"{plural(len(net.nodes), 'junction')}, {plural(len(net.links), 'link')}, {plural(len(net.conflicts), 'conflict')}: {options.folder / 'net.toml'}")

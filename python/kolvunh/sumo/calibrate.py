@@ -19,6 +19,7 @@ from pathlib import Path
 from typing import Any
 
 from ..commands import Words, end
+from ..files import write_file
 from ..records import text_of
 from .loop import traci_of_sumo
 from .measures import run_words
@@ -189,7 +190,7 @@ def work() -> None:
     for (node, phase), loss in losses.items():
         print(f"{node}: phase {phase}: loss {signals.layout.nodes[node]['phase'][phase]['loss']} -> {loss}")
     text = text_of(options.folder / "net.toml")
-    options.out.write_text(rewritten(text, signals.layout.network, links, losses), encoding="utf-8")
+    write_file(options.out, rewritten(text, signals.layout.network, links, losses))
 
 
 def main() -> None:

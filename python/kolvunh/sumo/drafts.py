@@ -15,6 +15,7 @@ from pathlib import Path
 from typing import NamedTuple
 
 from ..capacities import STRAIGHT_SAT, TURNING, WALK_SAT, giving_sat
+from ..files import write_files
 from ..networks import GREAT, SMALL, Limits
 from ..records import rows_of, text_of
 from .demand import Vehicle
@@ -418,7 +419,5 @@ def open_end(draft: Draft, edge: Edge, leaves: bool, taken: set[str]) -> Point:
 
 def write_draft(draft: Draft, folder: Path) -> None:
     """Writes net.toml, arrivals.csv, names.csv and places.csv."""
-    folder.mkdir(parents=True, exist_ok=True)
     texts = {"net.toml": network_text, "arrivals.csv": arrivals_text, "names.csv": names_text, "places.csv": places_text}
-    for name, text in texts.items():
-        (folder / name).write_text(text(draft), encoding="utf-8")
+    write_files(folder, {name: text(draft) for name, text in texts.items()})

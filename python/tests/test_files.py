@@ -1,0 +1,40 @@
+"""Tests of kolvunh.files."""
+
+import os
+
+from kolvunh import Fault
+from kolvunh.files import write_file, write_files
+
+from .worked import FilesTest
+
+
+class FilesWrittenTest(FilesTest):
+    def test_wholly_or_not_at_all(self) -> None:
+        home = self.folder / "new"
+        write_files(home, {"a": "1\r\n", "b": "2"})
+        self.assertEqual((home / "a").read_bytes(), b"1\r\n")
+        (home / "c").mkdir()
+        with self.assertRaisesRegex(Fault, "new: .*a, c can't be written there"):
+            write_files(home, {"a": "3", "c": "4"})  # c is a folder
+        self.assertEqual(((home / "a").read_bytes(), sorted(os.listdir(home))), (b"1\r\n", ["a", "b", "c"]))
+        with self.assertRaisesRegex(Fault, "can't be written there"):
+            write_file(home / "a" / "b", "5")
+        with self.assertRaises(KeyError):
+            write_files(self.folder / "other", Stopped({"a": "1"}))
+        self.assertEqual(os.listdir(self.folder), ["new"])
+
+    def test_links_and_what_is_no_file(self) -> None:
+        kept, link = self.file("kept", "kept"), self.folder / "link"
+        link.symlink_to(kept)
+        write_file(link, "new")
+        self.assertEqual((kept.read_text(), link.read_text(), link.is_symlink()), ("kept", "new", False))
+        write_file(os.devnull, "gone")
+        self.assertTrue(os.path.exists(os.devnull) and not os.path.isfile(os.devnull))
+
+
+class Stopped(dict):
+    """Texts of which the second can't be had: what an interrupt between two files is."""
+
+    def items(self):
+        yield from super().items()
+        raise KeyError
