@@ -65,7 +65,10 @@ def main() -> None:
         print(f"kolvunh: there is no command {words[0]!r}; there are {', '.join(MODULES)}", file=sys.stderr)
         sys.exit(2)
     sys.argv = [f"kolvunh {words[0]}", *words[1:]]
-    importlib.import_module(f".{MODULES[words[0]]}", __package__).main()
+    try:
+        importlib.import_module(f".{MODULES[words[0]]}", __package__).main()
+    except KeyboardInterrupt:  # before the command has begun
+        sys.exit(130)
 
 
 if __name__ == "__main__":

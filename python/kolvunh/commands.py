@@ -29,6 +29,8 @@ def end(work: Callable[[], int | None]) -> NoReturn:
 
     What is written is UTF-8 whatever the locale, as the files are; bytes of a file or a name that are none stand for themselves.
     """
+    if sys.stderr is None:  # else what is told goes to standard output
+        sys.stderr = open(os.devnull, "w", encoding="utf-8")
     try:
         if sys.stdout is None:
             raise Fault("there is no standard output to write to")
@@ -36,13 +38,23 @@ def end(work: Callable[[], int | None]) -> NoReturn:
             sys.stdout.reconfigure(encoding="utf-8", errors="surrogateescape")
         status = work() or 0
         sys.stdout.flush()
-    except (Fault, OSError) as fault:
-        _say("standard output was closed before all was written" if isinstance(fault, BrokenPipeError) else str(fault))
+    except (Fault, OSError, MemoryError) as fault:
+        _say(_words_of(fault))
         _drop_output()
         status = 2
     except KeyboardInterrupt:
         status = 130
     sys.exit(status)
+
+
+def _words_of(fault: Fault | OSError | MemoryError) -> str:
+    """A fault in words; one of the system that names no file is of standard output."""
+    if isinstance(fault, BrokenPipeError):
+        return "standard output was closed before all was written"
+    if isinstance(fault, MemoryError):
+        return "out of memory"
+    is_output = isinstance(fault, OSError) and fault.filename is None and fault.strerror
+    return f"standard output could not be written: {fault.strerror}; what was written is no whole answer" if is_output else str(fault)
 
 
 def _drop_output() -> None:
