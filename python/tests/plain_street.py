@@ -1,4 +1,5 @@
-"""Writes a street of a junction file as plain files of SUMO, and has netconvert make a network of them: nodes, edges, connections, programs.
+"""Writes a street of a junction file as plain files of SUMO, and has netconvert make a network of them: nodes, edges,
+connections, programs.
 
     python3 -m tests.plain_street FILE.toml DIR
 """
@@ -17,7 +18,8 @@ GREEN, SPEED = 20, 3.6
 
 
 class PlainStreet:
-    """A street as edges with a sidewalk where a crossing is; lanes are numbered from the left here, and from the right in SUMO."""
+    """A street as edges with a sidewalk where a crossing is; lanes are numbered from the left here, and from the right
+    in SUMO."""
 
     def __init__(self, street: Street) -> None:
         self.street = street
@@ -60,19 +62,25 @@ class PlainStreet:
         for name, signals in self.signals.items():
             for leg, approach in signals.junction.approaches.items():
                 start = approach.next or f"{name}_{leg}_end"
-                yield self.edge_text(self.edge(name, leg), start, name, approach, [lane.is_bus for lane in reversed(approach.lanes)])
+                yield self.edge_text(
+                    self.edge(name, leg), start, name, approach, [lane.is_bus for lane in reversed(approach.lanes)],
+                )
                 if approach.next is None:
                     yield self.edge_text(self.onward(name, leg), name, start, approach, [False] * signals.out(leg))
 
     def edge_text(self, edge: str, start: str, end: str, approach: Approach, buses: list[bool]) -> str:
         """An edge; its lanes are from the right."""
-        kinds = ["pedestrian", *("bus" if bus else "" for bus in buses)] if edge in self.walked else ["bus" if bus else "" for bus in buses]
+        kinds = ["pedestrian", *("bus" if bus else "" for bus in buses)] if edge in self.walked else [
+            "bus" if bus else "" for bus in buses
+        ]
         lanes = "".join(f'<lane index="{n}" allow="{kind}"/>' if kind else f'<lane index="{n}" disallow="pedestrian"/>' for n, kind in enumerate(kinds))
         return f'<edge id="{edge}" from="{start}" to="{end}" numLanes="{len(kinds)}" speed="{approach.speed / SPEED}">{lanes}</edge>'
 
     def lane(self, name: str, leg: str, number: int) -> int:
         """The number in SUMO of a lane by which vehicles come."""
-        return len(self.street.junctions[name].approaches[leg].lanes) - 1 - number + (self.edge(name, leg) in self.walked)
+        return len(self.street.junctions[name].approaches[leg].lanes) - 1 - number + (
+            self.edge(name, leg) in self.walked
+        )
 
     def target(self, name: str, way: Way) -> int:
         """The number in SUMO of the lane into which a way leads; no car leads into a bus lane."""
@@ -126,9 +134,15 @@ class PlainStreet:
         texts = {"nod": ("nodes", self.nodes()), "edg": ("edges", self.edges()), "con": ("connections", self.connections(False)),
                  "tll": ("tlLogics", self.programs()), "rou": ("routes", self.routes())}  # fmt: skip
         for kind, (root, lines) in texts.items():
-            (folder / f"street.{kind}.xml").write_text("\n".join([f"<{root}>", *lines, f"</{root}>", ""]), encoding="utf-8")
+            (folder / f"street.{kind}.xml").write_text(
+                "\n".join([f"<{root}>", *lines, f"</{root}>", ""]), encoding="utf-8",
+            )
         files = [f"--{word}-files={folder / f'street.{kind}.xml'}" for word, kind in (("node", "nod"), ("edge", "edg"), ("connection", "con"), ("tllogic", "tll"))]
-        subprocess.run(["netconvert", *files, "--no-turnarounds", "-o", folder / "street.net.xml"], check=True, capture_output=True)
+        subprocess.run(
+            ["netconvert", *files, "--no-turnarounds", "-o", folder / "street.net.xml"],
+            check=True,
+            capture_output=True,
+        )
         return folder / "street.net.xml"
 
 

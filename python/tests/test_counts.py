@@ -1,4 +1,5 @@
-"""Tests of `counts`. What enters and how it turns is counted by hand over two junctions that are drawn in the words of the trade."""
+"""Tests of `counts`. What enters and how it turns is counted by hand over two junctions that are drawn in the words of
+the trade."""
 
 from collections import Counter
 
@@ -37,8 +38,16 @@ BY_APPROACH = """date,start time,intersection,direction,left,thru,right,minutes
 # What the long file has in place of something, and what the line of the fault says
 ROW = "x,west,left,07:00,15,2\n"
 BAD = [
-    ("junction,approach,movement,begin,minutes,vehicles", "junction,approach,movement,begin,minutes,lorries", (":1:", '"lorries"', "write junction,")),
-    ("junction,approach,movement,begin,", "junction,approach,movement,hour,", ("no header with a column begin", "write junction,")),
+    (
+        "junction,approach,movement,begin,minutes,vehicles",
+        "junction,approach,movement,begin,minutes,lorries",
+        (":1:", '"lorries"', "write junction,"),
+    ),
+    (
+        "junction,approach,movement,begin,",
+        "junction,approach,movement,hour,",
+        ("no header with a column begin", "write junction,"),
+    ),
     (ROW, "z,west,left,07:00,15,2\n", (":2:", "junction z, approach west, left", "write one of x")),
     (ROW, "x,up,left,07:00,15,2\n", (":2:", "junction x", "north, east, south or west")),
     (ROW, "x,west,back,07:00,15,2\n", (":2:", "junction x, approach west", '"back"', "write left, through")),
@@ -47,7 +56,11 @@ BAD = [
     (ROW, "", ("junction x, approach west, left", "add its rows")),
     (ROW, ROW + ROW, (":3:", "junction x, approach west, left", "counted twice")),
     (ROW, ROW.replace("07:00", "07:15"), (":2:", "junction x, approach west, left", "no row counts 07:00 to 07:15")),
-    (ROW, ROW + "x,west,bus left,07:00,15,2\n", (":3:", "junction x, approach west, bus left", "write 0, or give a lane the movement")),
+    (
+        ROW,
+        ROW + "x,west,bus left,07:00,15,2\n",
+        (":3:", "junction x, approach west, bus left", "write 0, or give a lane the movement"),
+    ),
     (ROW, ROW.replace(",15,", ","), (":2:", "5 fields")),
 ]
 
@@ -82,7 +95,10 @@ class CountsTest(FilesTest):
             "junction x, approach east: 3 vehicles are counted, and y sends 6, so its counts are scaled by 2.00",
             "junction y, approach west: 10 vehicles are counted, and x sends 5, so its counts are scaled by 0.50",
         ])  # fmt: skip
-        self.assertEqual(Counter(arrival.link for arrival in demand.arrivals), {"x_eb": 6, "x_sb": 3, "y_wb": 3, "y_sb": 1, "y_nb": 2})
+        self.assertEqual(
+            Counter(arrival.link for arrival in demand.arrivals),
+            {"x_eb": 6, "x_sb": 3, "y_wb": 3, "y_sb": 1, "y_nb": 2},
+        )
 
     def test_totals_of_intervals_and_seeds(self):
         street = read_street(EXAMPLES / "streets/arterial.toml")
@@ -93,8 +109,13 @@ class CountsTest(FilesTest):
         self.assertNotEqual(drawn.arrivals, other.arrivals)
         west = ("oak_eb", "oak_ebtr", "oak_ebl")
         for demand in (even, drawn, other):
-            found = Counter(arrival.second // 900 for arrival in demand.arrivals for _ in range(arrival.amount // 1000) if arrival.link in west)
-            self.assertEqual([found[number] for number in range(4)], [13 + 142 + 12, 15 + 156 + 14, 16 + 170 + 15, 14 + 149 + 13])
+            found = Counter(
+                arrival.second // 900
+                for arrival in demand.arrivals for _ in range(arrival.amount // 1000) if arrival.link in west
+            )
+            self.assertEqual(
+                [found[number] for number in range(4)], [15 + 154 + 12, 16 + 172 + 14, 18 + 196 + 16, 17 + 178 + 14],
+            )
         if program():
             self.assertEqual(run(["bounds", net], [program()]).status, 0)
 

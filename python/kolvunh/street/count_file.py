@@ -1,4 +1,5 @@
-"""Reads turning counts: docs/FORMATS.md, "Turning counts". Rows of one movement each, of one approach, or of one junction, told by the header."""
+"""Reads turning counts: docs/FORMATS.md, "Turning counts". Rows of one movement each, of one approach, or of one
+junction, told by the header."""
 
 import re
 from collections.abc import Iterator, Mapping
@@ -81,7 +82,9 @@ def plain(cell: str) -> str:
 def approach_of(cell: str) -> str | None:
     """The approach of a word: `west`, or by where its vehicles go, `EB` or `eastbound`."""
     word = cell.strip().lower()
-    return word if word in COMPASS else BOUNDS.get(re.sub(r"(bound|b)$", "", plain(word)) if word not in SHORT.values() else "")
+    return word if word in COMPASS else BOUNDS.get(
+        re.sub(r"(bound|b)$", "", plain(word)) if word not in SHORT.values() else ""
+    )
 
 
 def movement_of(cell: str) -> str | None:
@@ -108,13 +111,18 @@ def clock(minute: int) -> str:
 
 
 def read_counts(place: Place, names: Mapping[str, str]) -> list[Count]:
-    """The counts of a file; `names` has the junctions of the network for those of the file that are called otherwise."""
+    """The counts of a file; `names` has the junctions of the network for those of the file that are called
+    otherwise."""
     rows = records_of(text_of(place))
     file = _header(place, rows)
     found: list[Count] = []
     for row in rows:
         if len(row.fields) != len(file.header.fields):
-            file.fail(row.line, f"the row has {len(row.fields)} fields, and the header has {len(file.header.fields)}: write a number in each, 0 for none")
+            file.fail(
+                row.line,
+                f"the row has {len(row.fields)} fields, and the header has {len(file.header.fields)}: write a number "
+                f"in each, 0 for none",
+            )
         found += _counts(file, row, names)
     if not found:
         file.fail(file.header.line, "there are no counts after the header")
@@ -154,7 +162,9 @@ def _columns(file: CountFile, words: list[str]) -> None:
         else:
             file.moves[at] = move
     kinds = set(file.kinds)
-    if not file.moves and not {"movement", "approach", "vehicles"} <= kinds or any(leg is None for leg, _ in file.moves.values()) and "approach" not in kinds:
+    if not file.moves and not {"movement", "approach", "vehicles"} <= kinds or any(
+        leg is None for leg, _ in file.moves.values()
+    ) and "approach" not in kinds:
         file.fail(file.header.line, f"the header {quote(','.join(file.header.fields))} lacks columns: write {FORM}")
 
 
@@ -164,11 +174,17 @@ def _counts(file: CountFile, row: Record, names: Mapping[str, str]) -> Iterator[
     junction = names.get(cells.get("junction", ""), cells.get("junction", ""))
     where = f"junction {junction}"
     begin = _minute(file, row, cells["begin"], where)
-    minutes = _number(file, row, cells["minutes"], f"{where}: minutes", 1, DAY) if "minutes" in cells else file.minutes or 0
+    minutes = _number(
+        file, row, cells["minutes"], f"{where}: minutes", 1, DAY,
+    ) if "minutes" in cells else file.minutes or 0
     own = cells.get("approach")
     leg = None if own is None else approach_of(own)
     if own is not None and leg is None:
-        file.fail(row.line, f"{where}: approach is {quote(own)}: write north, east, south or west, from where vehicles come, or NB, EB, SB or WB")
+        file.fail(
+            row.line,
+            f"{where}: approach is {quote(own)}: write north, east, south or west, from where vehicles come, or NB, "
+            f"EB, SB or WB",
+        )
     if not file.moves:
         movement = _movement(file, row, cells["movement"], f"{where}, approach {leg}")
         vehicles = _number(file, row, cells["vehicles"], f"{where}, approach {leg}, {movement}: vehicles", 0, MOST)
@@ -182,7 +198,11 @@ def _counts(file: CountFile, row: Record, names: Mapping[str, str]) -> Iterator[
 def _movement(file: CountFile, row: Record, cell: str, where: str) -> str:
     movement = movement_of(cell)
     if movement is None:
-        file.fail(row.line, f"{where}: movement is {quote(cell)}: write left, through, right, people, or bus and one of the first three")
+        file.fail(
+            row.line,
+            f"{where}: movement is {quote(cell)}: write left, through, right, people, or bus and one of the first "
+            f"three",
+        )
     return movement
 
 
@@ -192,7 +212,9 @@ def _minute(file: CountFile, row: Record, cell: str, where: str) -> int:
     if half is not None:
         hour = 99 if not 1 <= hour <= 12 else hour % 12 + (12 if half in "Pp" else 0)
     if hour > 23 or minute > 59:
-        file.fail(row.line, f"{where}: begin is {quote(cell)}: write a time of the day as 07:15, a date may stand before it")
+        file.fail(
+            row.line, f"{where}: begin is {quote(cell)}: write a time of the day as 07:15, a date may stand before it",
+        )
     return 60 * hour + minute
 
 
@@ -208,7 +230,9 @@ def _with_minutes(file: CountFile, counts: list[Count]) -> list[Count]:
         return counts
     begins = sorted({count.begin for count in counts})
     if len(begins) == 1:
-        file.fail(counts[0].line, "all rows have one begin, and nothing says for how long was counted: add a column minutes")
+        file.fail(
+            counts[0].line, "all rows have one begin, and nothing says for how long was counted: add a column minutes",
+        )
     minutes = min(later - begin for begin, later in pairwise(begins))
     return [Count(count.line, *count.key, count.begin, minutes, count.vehicles) for count in counts]
 
@@ -226,7 +250,14 @@ def _require_whole(file: CountFile, counts: list[Count]) -> None:
             if count.begin < at:
                 file.fail(count.line, f"{count.where}: {clock(count.begin)} is counted twice: leave one row out")
             if count.begin > at:
-                file.fail(count.line, f"{count.where}: no row counts {clock(at)} to {clock(count.begin)}: add one, with 0 where nobody came")
+                file.fail(
+                    count.line,
+                    f"{count.where}: no row counts {clock(at)} to {clock(count.begin)}: add one, with 0 where nobody "
+                    f"came",
+                )
             at = count.begin + count.minutes
         if at < last:
-            file.fail(own[-1].line, f"{own[-1].where}: no row counts {clock(at)} to {clock(last)}: add one, with 0 where nobody came")
+            file.fail(
+                own[-1].line,
+                f"{own[-1].where}: no row counts {clock(at)} to {clock(last)}: add one, with 0 where nobody came",
+            )

@@ -2,9 +2,9 @@
 
     ./signal counts NET COUNTS FOLDER [--seed N] [--from TIME] [--to TIME] [--name OTHER=JUNCTION ..] [--movements FILE]
 
-Writes `net.toml` (NET with the counted turning shares, and a run as long as the counts) and `arrivals.csv` into FOLDER. Vehicles are spread
-evenly over each interval, or drawn by Poisson from the number N, as many as were counted. `movements.csv` is beside NET, as `street` writes it.
-What was changed is told. docs/FORMATS.md, "Turning counts".
+Writes `net.toml` (NET with the counted turning shares, and a run as long as the counts) and `arrivals.csv` into FOLDER.
+Vehicles are spread evenly over each interval, or drawn by Poisson from the number N, as many as were counted.
+`movements.csv` is beside NET, as `street` writes it. What was changed is told. docs/FORMATS.md, "Turning counts".
 """
 
 from collections.abc import Mapping
@@ -65,16 +65,25 @@ def work() -> None:
     parser.add_argument("--seed", type=int, help="draw the vehicles by Poisson, from this number")
     parser.add_argument("--from", dest="begin", default="00:00", help="the first interval begins then")
     parser.add_argument("--to", dest="stop", default="24:00", help="the last interval begins before")
-    parser.add_argument("--name", action="append", default=[], help="a junction's name in the counts, =, and in the network")
-    parser.add_argument("--movements", type=Path, help="which link serves which movement; movements.csv beside NET if left out")
+    parser.add_argument(
+        "--name", action="append", default=[], help="a junction's name in the counts, =, and in the network",
+    )
+    parser.add_argument(
+        "--movements", type=Path, help="which link serves which movement; movements.csv beside NET if left out",
+    )
     options = parser.parse_args()
     between = minute_in("--from", options.begin), minute_in("--to", options.stop)
-    demand = demand_of(options.network, options.counts, options.movements, options.seed, between, names_in(options.name))
+    demand = demand_of(
+        options.network, options.counts, options.movements, options.seed, between, names_in(options.name),
+    )
     tell(demand.told)
     write_files(options.folder, {"net.toml": network_text(demand.network), "arrivals.csv": arrivals_text(demand.arrivals)})
     vehicles = sum(arrival.amount for arrival in demand.arrivals) // 1000
     seconds = demand.network.run.seconds
-    print(f"{plural(vehicles, 'vehicle')} in {seconds // 60} minutes: {options.folder / 'net.toml'}, {options.folder / 'arrivals.csv'}")
+    print(
+        f"{plural(vehicles, 'vehicle')} in {seconds // 60} minutes: {options.folder / 'net.toml'}, "
+        f"{options.folder / 'arrivals.csv'}"
+    )
 
 
 def main() -> None:

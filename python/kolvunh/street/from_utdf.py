@@ -2,8 +2,9 @@
 
     ./signal from-utdf FILE FOLDER [--seed N]
 
-Writes net.toml, movements.csv, store.csv, places.csv, arrivals.csv (the volumes of an hour, evenly, or drawn by Poisson from the number N) and
-plan.csv into FOLDER. Node 3 of the file is junction n3. What can't be said is told, junction by junction. docs/FORMATS.md, "UTDF".
+Writes into FOLDER what `street` writes, arrivals.csv (the volumes of an hour, evenly, or by Poisson from the number N) and
+plan.csv. Node 3 of the file is junction n3. What can't be said is told, junction by junction. docs/FORMATS.md,
+"UTDF".
 """
 
 from dataclasses import dataclass
@@ -24,7 +25,8 @@ from .volumes import Volumes
 
 @dataclass
 class Imported:
-    """A file as a street, its network with counted shares, what enters it, and its plan; `told` is what can't be said."""
+    """A file as a street, its network with counted shares, what enters it, and its plan; `told` is what can't be
+    said."""
 
     street: Street
     draft: Draft
@@ -41,7 +43,9 @@ def imported(place: Place, seed: int | None = None) -> Imported:
     draft.places = {name_of(node): reader.place(node) for node in reader.signals}
     demand = Volumes(draft.network, draft.servings, place, list(reader.counts())).demand(seed)
     draft.network = demand.network
-    return Imported(street, draft, demand.arrivals, list(reader.plan()), [*reader.told, *reader.rest(), *draft.told, *demand.told])
+    return Imported(
+        street, draft, demand.arrivals, list(reader.plan()), [*reader.told, *reader.rest(), *draft.told, *demand.told],
+    )
 
 
 def work() -> None:
@@ -56,7 +60,10 @@ def work() -> None:
     write_files(options.folder, texts_of(found.draft, found.street) | texts)
     tell(found.told)
     net = found.draft.network
-    print(f"{plural(len(net.nodes), 'junction')}, {plural(len(net.links), 'link')}, {plural(len(net.conflicts), 'conflict')}: {options.folder / 'net.toml'}")
+    print(
+        f"{plural(len(net.nodes), 'junction')}, {plural(len(net.links), 'link')}, "
+        f"{plural(len(net.conflicts), 'conflict')}: {options.folder / 'net.toml'}"
+    )
 
 
 def main() -> None:

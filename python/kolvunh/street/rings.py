@@ -1,7 +1,7 @@
 """The phases of rings and barriers as the stages of one ring, with their seconds in a cycle.
 
-A stage is what is green together. It begins where a phase of a ring begins, and ends with the yellow and all-red of those that end with it. What
-is too short for a green, or beyond four stages, goes into the stage after it, and is told.
+A stage is what is green together. It begins where a phase of a ring begins, and ends with the yellow and all-red of
+those that end with it. What is too short for a green, or beyond four stages, goes into the stage after it, and is told.
 """
 
 import math
@@ -69,7 +69,10 @@ class Rings:
                 for phase in own:
                     rest = begin + whole - at if phase is own[-1] else phase.split
                     if rest - phase.split > 0.05:
-                        self.told.append(f"phase {phase.number} lasts {rest:g} s in place of {phase.split:g}, until the other ring is at the barrier")
+                        self.told.append(
+                            f"phase {phase.number} lasts {rest:g} s in place of {phase.split:g}, until the other ring "
+                            f"is at the barrier"
+                        )
                     yield phase.number, (at, rest)
                     at += phase.split
             begin += whole
@@ -98,8 +101,9 @@ class Rings:
         found = next((at for at in need if self._is_spare(at)), None)
         if found is None:
             words = sorted(self.stages[order[0]].phases)
-            self.lost = f"the green of phases {words} is no longer than their yellow and all-red" if self.stages[order[0]].green < 1 else \
-                f"it has {len(self.stages)} stages, and {MOST_STAGES} can be said"  # fmt: skip
+            self.lost = f"it has {len(self.stages)} stages, and {MOST_STAGES} can be said"
+            if self.stages[order[0]].green < 1:
+                self.lost = f"the green of phases {words} is no longer than their yellow and all-red"
         return found
 
     def _is_spare(self, at: int) -> bool:
@@ -108,11 +112,14 @@ class Rings:
         return self.stages[at].phases <= others
 
     def _drop(self, at: int) -> None:
-        """Takes a stage out; its seconds go to the one after it, or to the one before where they have more in common."""
+        """Takes a stage out; its seconds go to the one after it, or to the one before where they have more in
+        common."""
         stage, after = self.stages[at], self.stages[(at + 1) % len(self.stages)]
         if stage.phases & after.phases or not stage.phases & self.stages[at - 1].phases:
             after.begin = stage.begin
-        why = "it is too short for a green" if stage.green < 1 else f"of its {stage.green} s, {MOST_STAGES} stages are the most"
+        why = "it is too short for a green"
+        if stage.green > 0:
+            why = f"it has {stage.green} s, and {MOST_STAGES} stages are the most"
         self.told.append(f"phases {' and '.join(map(str, sorted(stage.phases)))} have no stage of their own: {why}")
         del self.stages[at]
         first = self.stages[0].begin
@@ -122,7 +129,8 @@ class Rings:
         self._time()
 
     def point(self, phases: Sequence[int], way: int) -> int:
-        """The second of the cycle to which an offset refers: the last of these phases to turn green (0), the first to turn yellow (1) or red (2),
+        """The second of the cycle to which an offset refers: the last of these phases to turn green (0), the first to
+        turn yellow (1) or red (2),
         or the first to turn green (3)."""
         begins, ends = [], []
         for at, stage in enumerate(self.stages):

@@ -16,7 +16,8 @@ PEOPLE, BUS = "people", "bus "  # the movement over a crossing; what stands befo
 
 @dataclass(frozen=True)
 class Serving:
-    """A movement of a junction, and a link that serves it: `part` of the movement's vehicles take this link and leave by `leg`, on the links
+    """A movement of a junction, and a link that serves it: `part` of the movement's vehicles take this link and leave
+    by `leg`, on the links
     `onward`. It `gives` way in some stage; the link has so many lanes."""
 
     junction: str
@@ -47,7 +48,17 @@ def records(header: Sequence[str], rows: Iterable[Sequence[object]]) -> str:
 def servings_text(rows: Iterable[Serving]) -> str:
     """The text of a file that has these rows."""
     return records(HEADER, [
-        (row.junction, row.approach, row.movement, row.link, f"{row.part:.6f}", row.leg, int(row.gives), row.lanes, " ".join(row.onward))
+        (
+            row.junction,
+            row.approach,
+            row.movement,
+            row.link,
+            f"{row.part:.6f}",
+            row.leg,
+            int(row.gives),
+            row.lanes,
+            " ".join(row.onward),
+        )
         for row in rows
     ])  # fmt: skip
 
@@ -55,7 +66,10 @@ def servings_text(rows: Iterable[Serving]) -> str:
 def read_servings(place: Place, network: Network) -> list[Serving]:
     """The rows of a file, of links that the network has."""
     if not Path(place).exists():
-        raise Fault(f"{place}: there is no such file: `street` and `from-utdf` write it beside the network; else write one with {','.join(HEADER)}")
+        raise Fault(
+            f"{place}: there is no such file: `street` and `from-utdf` write it beside the network; else write one "
+            f"with {','.join(HEADER)}"
+        )
     return [_serving(place, row, network) for row in rows_of(place, text_of(place), HEADER)]
 
 
@@ -64,11 +78,19 @@ def _serving(place: Place, row: Record, network: Network) -> Serving:
     where = f"{place}:{row.line}: junction {junction}, approach {approach}, {movement}"
     found = network.link_named(link)
     if found is None or found.end is None:
-        raise Fault(f"{where}: link {quote(link)} is none of the network that ends at a node: write the link that serves the movement")
+        raise Fault(
+            f"{where}: link {quote(link)} is none of the network that ends at a node: write the link that serves the "
+            f"movement"
+        )
     exits = tuple(onward.split())
-    strange = next((name for name in exits if (exit := network.link_named(name)) is None or exit.start != found.end), None)
+    strange = next(
+        (name for name in exits if (exit := network.link_named(name)) is None or exit.start != found.end), None,
+    )
     if strange is not None or not exits:
-        raise Fault(f"{where}: onward is {quote(onward)}: write the links of the network that begin at {found.end}, with spaces between")
+        raise Fault(
+            f"{where}: onward is {quote(onward)}: write the links of the network that begin at {found.end}, with "
+            f"spaces between"
+        )
     if gives not in ("0", "1"):
         raise Fault(f"{where}: gives is {quote(gives)}: write 1 where the movement gives way in some phase, and else 0")
     try:
@@ -76,5 +98,17 @@ def _serving(place: Place, row: Record, network: Network) -> Serving:
     except ValueError:
         share = -1.0
     if not 0 < share <= 1:
-        raise Fault(f"{where}: part is {quote(part)}: write the part of the movement that takes this link, above 0 and up to 1")
-    return Serving(junction, approach, movement, link, share, leg, gives == "1", max(1, number_in(place, row.line, "lanes", lanes)), exits)
+        raise Fault(
+            f"{where}: part is {quote(part)}: write the part of the movement that takes this link, above 0 and up to 1"
+        )
+    return Serving(
+        junction,
+        approach,
+        movement,
+        link,
+        share,
+        leg,
+        gives == "1",
+        max(1, number_in(place, row.line, "lanes", lanes)),
+        exits,
+    )

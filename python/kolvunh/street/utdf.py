@@ -1,4 +1,5 @@
-"""Synchro's UTDF as a street, its counts and its fixed plan: docs/FORMATS.md, "UTDF". What can't be said is told, junction by junction."""
+"""Synchro's UTDF as a street, its counts and its fixed plan: docs/FORMATS.md, "UTDF". What can't be said is told,
+junction by junction."""
 
 import math
 from collections import Counter
@@ -47,7 +48,10 @@ class Reader:
         self.types = {node: int(file.number("nodes", node, "", "type")) for node in file.cells["nodes"]}
         is_metric = file.number("network", "", "metric", "data") == 1
         self.metre, self.speed = (1.0, 1.0) if is_metric else (FOOT, MILE)
-        self.columns = {LEGS[column[:-1] if column[-1] == "b" else column]: column for column in ("nb", "sb", "eb", "wb", "ne", "nw", "se", "sw")}
+        self.columns = {
+            LEGS[column[:-1] if column[-1] == "b" else column]: column
+            for column in ("nb", "sb", "eb", "wb", "ne", "nw", "se", "sw")
+        }
         if SIGNAL not in self.types.values():
             file.fail(file.lines["nodes"], f"[Nodes]: no node has TYPE {SIGNAL}, a signal: write it")
         self.signals: dict[str, Signal] = {}
@@ -91,7 +95,12 @@ class Reader:
 
     def _joined(self, name: str, approach: Approach, junctions: dict[str, Junction]) -> Approach:
         """An approach without its neighbour where that leads here by no leg, or by two."""
-        back = [other for other in (junctions[approach.next].approaches.values() if approach.next in junctions else ()) if other.next == name]
+        back = [
+            other
+            for other in (
+                junctions[approach.next].approaches.values() if approach.next in junctions else ()
+            ) if other.next == name
+        ]
         twice = [other for other in junctions[name].approaches.values() if other.next == approach.next]
         return approach if len(back) == 1 == len(twice) else replace(approach, next=None)
 
@@ -101,25 +110,46 @@ class Reader:
         green_of = self._greens(node, approaches, {phase.number for phase in rings.phases})
         crossings, peds = self._crossings(node, approaches, green_of)
         stages = [self._stage(node, stage, green_of, crossings) for stage in rings.stages]
+        shown = {green.leg for stage in stages for green in stage.greens if green.is_walk}
+        crossings = {leg: walk for leg, walk in crossings.items() if leg in shown}
         offset = self._offset(node, rings)
-        return Signal(Junction(name_of(node), approaches, crossings, self._skips(stages), line=self.file.line("phases", node)), rings, offset, peds)
+        return Signal(
+            Junction(name_of(node), approaches, crossings, self._skips(stages), line=self.file.line("phases", node)),
+            rings,
+            offset,
+            peds,
+        )
 
     def _phases(self, node: str) -> Iterator[RingPhase]:
         """The phases that have a place in a ring and a split."""
         places = self.file.cells["phases"].get(node, {}).get("brp", {})
         if not places:
-            self.file.fail(self.file.line("phases", node), f"junction {node}: [Phases] has no BRP of it: write barrier, ring and position of each phase, as 111")
-        cells = [cell.text for record in ("yellow", "allred") for cell in self.file.cells["phases"][node].get(record, {}).values()]
+            self.file.fail(
+                self.file.line("phases", node),
+                f"junction {node}: [Phases] has no BRP of it: write barrier, ring and position of each phase, as 111",
+            )
+        cells = [
+            cell.text
+            for record in ("yellow", "allred") for cell in self.file.cells["phases"][node].get(record, {}).values()
+        ]
         if any(not text.partition(".")[2].strip("0") == "" for text in cells):
             self.tell(node, "yellow and all-red are rounded up to whole seconds")
         lanes = self.file.cells["lanes"].get(node, {})
-        used = {cell.text for prefix in ("", "perm") for record in PHASES for cell in lanes.get(prefix + record, {}).values()}
+        used = {
+            cell.text
+            for prefix in ("", "perm") for record in PHASES for cell in lanes.get(prefix + record, {}).values()
+        }
         for column, cell in places.items():
             if cell.text == "0" or not column[1:].isdigit():
                 continue
             if not cell.text.isdigit() or len(cell.text) != 3:
-                self.file.fail(cell.line, f"junction {node}{words_of(column)}: brp is {cell.text!r}: write barrier, ring and position of the phase, as 111")
-            yellow, red, green = (self._time(node, record, column, default) for record, default in (("yellow", 3.5), ("allred", 1.0), ("maxgreen", 0.0)))
+                self.file.fail(
+                    cell.line,
+                    f"junction {node}{words_of(column)}: brp is {cell.text!r}: write barrier, ring and position of "
+                    f"the phase, as 111",
+                )
+            times = (("yellow", 3.5), ("allred", 1.0), ("maxgreen", 0.0))
+            yellow, red, green = (self._time(node, record, column, default) for record, default in times)
             if green and column[1:] not in used:
                 self.tell(node, f"phase {column[1:]} is of no movement, and is left out")
             elif green:
@@ -130,7 +160,8 @@ class Reader:
 
     def _approaches(self, node: str) -> Iterator[tuple[str, Approach]]:
         """The legs of a junction: those of [Links], and those to which a movement leads by its `Dest Node` alone."""
-        ups = {leg: cell for leg, column in self.columns.items() if (cell := self.file.cell("links", node, "upid", column))}
+        found = {leg: self.file.cell("links", node, "upid", column) for leg, column in self.columns.items()}
+        ups = {leg: cell for leg, cell in found.items() if cell}
         ends = ups | {to: cell for leg in ups for to, cell in self._ahead(node, leg, ups)}
         legs = list(ends)
         exits = {leg: exits_of(leg, legs) for leg in legs}
@@ -138,13 +169,26 @@ class Reader:
         reached = {exits[leg][movement] for leg in legs for lane in lanes[leg] for movement in lane.movements}
         for leg in legs:
             speed = self.file.number("links", node, "speed", self.columns[leg], 30 / self.speed * MILE) * self.speed
-            turns = {move: self._volume(node, leg, move) for move in Movement if any(move in lane.movements for lane in lanes[leg])}
+            turns = {
+                move: self._volume(node, leg, move)
+                for move in Movement if any(move in lane.movements for lane in lanes[leg])
+            }
             following, distance = self._neighbour(node, leg, ends[leg])
             left = self._left(node, leg, lanes[leg])
             parts = {move: float(volume) for move, volume in turns.items()} if any(turns.values()) else {}
-            bounds = [min(max(value, low), high) for value, (low, high) in ((speed, RATES["speed"]), (distance, RATES["distance"]))]
+            bounds = [bounded(speed, "speed"), bounded(distance, "distance")]
             grade = self.file.number("links", node, "grade", self.columns[leg], least=-20.0)
-            yield leg, Approach(leg, lanes[leg], *bounds, following, left, parts, min(grade, 20.0), None if leg in reached else 0, self.file.line("lanes", node))
+            yield leg, Approach(
+                leg,
+                lanes[leg],
+                *bounds,
+                following,
+                left,
+                parts,
+                min(grade, 20.0),
+                None if leg in reached else 0,
+                self.file.line("lanes", node),
+            )
 
     def _ahead(self, node: str, leg: str, ups: dict[str, Cell]) -> Iterator[tuple[str, Cell]]:
         """The legs by which an approach leaves and none comes: their nodes are a `Dest Node` alone."""
@@ -156,7 +200,8 @@ class Reader:
                 yield to, cell
 
     def _lanes(self, node: str, leg: str, exits: dict[Movement, str]) -> tuple[Lane, ...]:
-        """The lanes of an approach from the left, of how many each movement has and which are shared (1 with the left, 2 with the right, 3 both)."""
+        """The lanes of an approach from the left, of how many each movement has and which are shared (1 with the left,
+        2 with the right, 3 both)."""
         counts = {move: int(self._lane_number(node, "lanes", leg, move)) for move in Movement}
         lanes: list[Lane] = []
         for move in Movement:
@@ -164,25 +209,39 @@ class Reader:
             for number in range(counts[move]):
                 own = {move}
                 if shared & 1 and number == 0 and move is not Movement.LEFT:
-                    own.add(Movement.LEFT if not counts[Movement.LEFT] or move is Movement.THROUGH else Movement.THROUGH)
+                    own.add(
+                        Movement.LEFT if not counts[Movement.LEFT] or move is Movement.THROUGH else Movement.THROUGH
+                    )
                 if shared & 2 and number == counts[move] - 1 and move is not Movement.RIGHT:
-                    own.add(Movement.RIGHT if move is Movement.THROUGH or not counts[Movement.THROUGH] else Movement.THROUGH)
+                    has_through = move is not Movement.THROUGH and counts[Movement.THROUGH]
+                    own.add(Movement.THROUGH if has_through else Movement.RIGHT)
                 storage = self._lane_number(node, "storage", leg, move) * self.metre
                 bays = int(self._lane_number(node, "stlanes", leg, move, counts[move]))
                 is_bay = storage >= 1 and (number < bays if move is Movement.LEFT else number >= counts[move] - bays)
-                lanes.append(self._lane(node, leg, tuple(one for one in Movement if one in own), exits, storage if is_bay else None))
+                moves = tuple(one for one in Movement if one in own)
+                lanes.append(self._lane(node, leg, moves, exits, storage if is_bay else None))
         for move in Movement:
             cell = self.file.cell("lanes", node, "volume", column_of(self.columns[leg], move))
             if cell and self._volume(node, leg, move) and not any(move in lane.movements for lane in lanes):
-                self.file.fail(cell.line, f"junction {node}, approach {leg}, {move}: {cell.text} vehicles are there, and no lane: write Lanes, or Shared of the lane beside")
+                self.file.fail(
+                    cell.line,
+                    f"junction {node}, approach {leg}, {move}: {cell.text} vehicles are there, and no lane: write "
+                    f"Lanes, or Shared of the lane beside",
+                )
         return tuple(lanes)
 
-    def _lane(self, node: str, leg: str, moves: tuple[Movement, ...], exits: dict[Movement, str], bay: float | None) -> Lane:
+    def _lane(
+        self, node: str, leg: str, moves: tuple[Movement, ...], exits: dict[Movement, str], bay: float | None,
+    ) -> Lane:
         lost = next((move for move in moves if move not in exits), None)
         if lost is not None:
             cell = self.file.cell("lanes", node, "lanes", column_of(self.columns[leg], lost))
             line = cell.line if cell else self.file.line("lanes", node)
-            self.file.fail(line, f"junction {node}, approach {leg}, {lost}: no leg is there: write its node as Up ID of [Links], or Lanes 0")
+            self.file.fail(
+                line,
+                f"junction {node}, approach {leg}, {lost}: no leg is there: write its node as Up ID of [Links], or "
+                f"Lanes 0",
+            )
         return Lane(moves, False, bay)
 
     def _lane_number(self, node: str, record: str, leg: str, move: Movement, default: float = 0.0) -> float:
@@ -196,11 +255,16 @@ class Reader:
         column = self.columns[leg]
         distance, before, up = self.file.number("links", node, "distance", column), node, end.text
         if up not in self.types:
-            self.file.fail(end.line, f"junction {node}, approach {leg}: its node is {up!r}, and [Nodes] has no such node: write its row there")
+            self.file.fail(
+                end.line,
+                f"junction {node}, approach {leg}: its node is {up!r}, and [Nodes] has no such node: write its row "
+                f"there",
+            )
         for _ in range(MOST_BENDS):
             if self.types.get(up) != BEND:
                 break
-            further = [(cell.text, end) for end, cell in self.file.cells["links"].get(up, {}).get("upid", {}).items() if cell.text != before]
+            ends = self.file.cells["links"].get(up, {}).get("upid", {})
+            further = [(cell.text, end) for end, cell in ends.items() if cell.text != before]
             if len(further) != 1:
                 break
             distance += self.file.number("links", up, "distance", further[0][1])
@@ -210,7 +274,9 @@ class Reader:
 
     def place(self, node: str) -> tuple[float, float]:
         """Where a node is, in metres."""
-        return tuple(self.file.number("nodes", node, "", axis, least=-1e9) * self.metre for axis in ("x", "y"))  # type: ignore[return-value]
+        return tuple(
+            self.file.number("nodes", node, "", axis, least=-1e9) * self.metre for axis in ("x", "y")
+        )  # type: ignore[return-value]
 
     def _movement_phases(self, node: str, leg: str, move: Movement, prefix: str = "") -> list[int]:
         """The phases of a movement, protected or, by the prefix `perm`, permitted."""
@@ -227,7 +293,8 @@ class Reader:
         return Left.PROTECTED if own and not set(own) <= set(through) else Left.PERMISSIVE
 
     def _greens(self, node: str, approaches: dict[str, Approach], known: set[int]) -> dict[int, list[Green]]:
-        """What is green in each phase; a right without phases of its own goes with those straight ahead, and a shared lane with them too."""
+        """What is green in each phase; a right without phases of its own goes with those straight ahead, and a shared
+        lane with them too."""
         found: dict[int, list[Green]] = {number: [] for number in known}
         for leg, approach in approaches.items():
             through = self._all_phases(node, leg, Movement.THROUGH, known)
@@ -238,7 +305,9 @@ class Reader:
                 if not numbers and move is Movement.RIGHT and through:
                     numbers = through
                     if any(lane.movements == (move,) for lane in approach.lanes):
-                        self.tell(node, f"approach {leg}, right: it has no phase, and is green with those straight ahead")
+                        self.tell(
+                            node, f"approach {leg}, right: it has no phase, and is green with those straight ahead",
+                        )
                 elif not numbers:
                     numbers = through or self._all_phases(node, leg, Movement.LEFT, known)
                 for number in numbers:
@@ -249,49 +318,77 @@ class Reader:
         numbers = [number for prefix in ("", "perm") for number in self._movement_phases(node, leg, move, prefix)]
         strange = next((number for number in numbers if number not in known), None)
         if strange is not None:
-            line = next(cell.line for record in PHASES for prefix in ("", "perm") if (cell := self.file.cell("lanes", node, prefix + record, column_of(self.columns[leg], move))))
-            self.file.fail(line, f"junction {node}, approach {leg}, {move}: phase {strange} has no BRP or no MaxGreen in [Phases]: write both, or another phase")
+            line = next(
+                cell.line
+                for record in PHASES for prefix in ("", "perm") if (
+                    cell := self.file.cell("lanes", node, prefix + record, column_of(self.columns[leg], move))
+                )
+            )
+            self.file.fail(
+                line,
+                f"junction {node}, approach {leg}, {move}: phase {strange} has no BRP or no MaxGreen in [Phases]: "
+                f"write both, or another phase",
+            )
         return list(dict.fromkeys(numbers))
 
-    def _crossings(self, node: str, approaches: dict[str, Approach], green_of: dict[int, list[Green]]) -> tuple[dict[str, Crossing], dict[str, int]]:
-        """Crossings of which people are counted beside a right turn: over the leg into which it leads, with the phase straight ahead."""
+    def _crossings(self, node: str, approaches: dict[str, Approach], green_of: dict[int, list[Green]]) -> tuple[
+        dict[str, Crossing], dict[str, int],
+    ]:
+        """Crossings of which people are counted beside a right turn: over the leg into which it leads, with the phase
+        straight ahead."""
         found, peds, walks = dict[str, Crossing](), dict[str, int](), Counter[str]()
         for leg in approaches:
             to = exits_of(leg, list(approaches)).get(Movement.RIGHT)
             for number, greens in green_of.items():
                 walk, flash = (self._time(node, record, f"d{number}") for record in ("walk", "dontwalk"))
-                people = sum(int(self._lane_number(node, "peds", leg, move)) for move in (Movement.THROUGH, Movement.RIGHT))
-                if not walk or not flash or not any(green.leg == leg and green.movement is not Movement.LEFT for green in greens):
+                people = sum(
+                    int(self._lane_number(node, "peds", leg, move)) for move in (Movement.THROUGH, Movement.RIGHT)
+                )
+                if not walk or not flash or not any(
+                    green.leg == leg and green.movement is not Movement.LEFT for green in greens
+                ):
                     continue
                 if to is None or not people or to in found:
                     walks["walk"] += to not in found
                     continue
                 low, high = RATES["length"]
-                found[to] = Crossing(to, min(max(math.ceil(flash) * WALKING, low), high), max(1, math.floor(walk + 0.5)), self.file.line("phases", node))
+                found[to] = Crossing(
+                    to,
+                    min(max(math.ceil(flash) * WALKING, low), high),
+                    max(1, math.floor(walk + 0.5)),
+                    self.file.line("phases", node),
+                )
                 peds[to] = people
                 greens.append(Green(to, None, True))
         if walks and not found:
             self.tell(node, "its phases have a walk, and no Peds are there: it has no crossings")
         return found, peds
 
-    def _stage(self, node: str, times: Times, green_of: dict[int, list[Green]], crossings: dict[str, Crossing]) -> Stage:
-        """A stage with its bounds: the least green of its phases, and as the greatest one the longest that they or the plan have."""
+    def _stage(
+        self, node: str, times: Times, green_of: dict[int, list[Green]], crossings: dict[str, Crossing]
+    ) -> Stage:
+        """A stage with its bounds: the least green of its phases, and as the greatest one the longest that they or the
+        plan have."""
+        line = self.file.line("phases", node)
+        bounds = (("yellow", times.yellow, *BOUNDS["yellow"]), ("all-red", times.clear, *BOUNDS["all_red"]))
+        for what, value, low, high in (*bounds, ("green", times.green, *BOUNDS["greatest"])):
+            if not low <= value <= high:
+                words = f"{what} is {value} s: write {low} to {high}"
+                self.file.fail(line, f"junction {node}, phases {sorted(times.phases)}: {words}")
         columns = [f"d{number}" for number in sorted(times.phases)]
         greens = list(dict.fromkeys(green for number in sorted(times.phases) for green in green_of[number]))
-        for what, value, (low, high) in (("yellow", times.yellow, BOUNDS["yellow"]), ("all-red", times.clear, BOUNDS["all_red"]), ("green", times.green, (1, 240))):
-            if not low <= value <= high:
-                self.file.fail(self.file.line("phases", node), f"junction {node}, phases {sorted(times.phases)}: {what} is {value} s: write {low} to {high}")
-        over = [crossings[green.leg] for green in greens if green.is_walk]
-        need = max((walk.walk + math.ceil(walk.length / WALKING - 1e-9) for walk in over), default=0)
-        if need > times.green:
-            self.tell(node, f"people need {need} s, and its plan has {times.green} s of green for them: it has no crossing there")
-            for walk in over:
-                crossings.pop(walk.leg, None)
-            greens, need = [green for green in greens if not green.is_walk], 0
-        least = max(need, min(times.green, max(1, *(math.ceil(self._time(node, "mingreen", column, 5) - 0.01) for column in columns))))
-        greatest = min(240, max(times.green, least, *(math.floor(self._time(node, "maxgreen", column)) for column in columns)))
+        needs = {green: need_of(crossings[green.leg]) for green in greens if green.is_walk}
+        for green, need in needs.items():
+            if need > times.green:
+                words = f"people need {need} s over {green.leg}, and the plan has {times.green} s: they have no green there"
+                self.tell(node, f"phases {' and '.join(map(str, sorted(times.phases)))}: {words}")
+                greens.remove(green)
+        own = max(math.ceil(self._time(node, "mingreen", column, 5) - 0.01) for column in columns)
+        least = max([1, min(own, times.green), *(need for green, need in needs.items() if green in greens)])
+        longest = max(math.floor(self._time(node, "maxgreen", column)) for column in columns)
+        greatest = min(BOUNDS["greatest"][1], max(times.green, least, longest))
         is_called = all(self._time(node, "recall", column, 1) == 0 for column in columns)
-        return Stage(tuple(greens), least, greatest, times.yellow, times.clear, is_called, self.file.line("phases", node))
+        return Stage(tuple(greens), least, greatest, times.yellow, times.clear, is_called, line)
 
     def _skips(self, stages: list[Stage]) -> tuple[Stage, ...]:
         """The stages, of which two at least are shown in each round of the ring."""
@@ -317,7 +414,13 @@ class Reader:
         """What of the whole file is not said, with at how many junctions."""
         for record, words in (("allowrtor", "let vehicles turn right on red"), ("growth", "have a factor of growth")):
             usual = "0" if record == "allowrtor" else "1"
-            count = sum(any(float(cell.text) != float(usual) for cell in self.file.cells["lanes"].get(node, {}).get(record, {}).values()) for node in self.signals)
+            count = sum(
+                any(
+                    float(cell.text) != float(usual)
+                    for cell in self.file.cells["lanes"].get(node, {}).get(record, {}).values()
+                )
+                for node in self.signals
+            )
             if count:
                 yield f"{plural(count, 'junction')} {words}, which is not taken"
 
@@ -337,6 +440,17 @@ class Reader:
                         yield Count(line, name_of(node), leg, str(move), 0, 60, self._volume(node, leg, move))
             for leg in signal.junction.crossings:
                 yield Count(line, name_of(node), leg, PEOPLE, 0, 60, signal.peds[leg])
+
+
+def need_of(walk: Crossing) -> int:
+    """The green that a crossing needs: to enter it, and to be over."""
+    return walk.walk + math.ceil(walk.length / WALKING - 1e-9)
+
+
+def bounded(value: float, key: str) -> float:
+    """A value within the bounds of a junction file's key."""
+    low, high = RATES[key]
+    return min(max(value, low), high)
 
 
 def column_of(column: str, move: Movement) -> str:

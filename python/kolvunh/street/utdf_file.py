@@ -1,4 +1,5 @@
-"""Reads Synchro's UTDF in CSV: docs/FORMATS.md, "UTDF". Names of sections, records and columns are compared without case, spaces and signs."""
+"""Reads Synchro's UTDF in CSV: docs/FORMATS.md, "UTDF". Names of sections, records and columns are compared without
+case, spaces and signs."""
 
 import csv
 import io
@@ -12,7 +13,11 @@ from ..records import Place, quote, text_of
 from .legs import SHORT, opposite
 
 SECTIONS = ("network", "nodes", "links", "lanes", "timeplans", "phases")
-HEADERS = {"network": ("recordname", "data"), "nodes": ("intid", "type", "x", "y"), "timeplans": ("recordname", "intid", "data")}
+HEADERS = {
+    "network": ("recordname", "data"),
+    "nodes": ("intid", "type", "x", "y"),
+    "timeplans": ("recordname", "intid", "data"),
+}
 LEGS = {short: opposite(leg) for leg, short in SHORT.items()}  # by where vehicles go: `n` comes from the south
 MOVES = {"l": "left", "t": "through", "r": "right"}
 
@@ -31,7 +36,8 @@ def plain(text: str) -> str:
 
 
 def leg_of(column: str) -> str | None:
-    """The approach of a column of [Links] or [Lanes]: `nb` and `nbl` are from the south, `ne` and `net` from the southwest."""
+    """The approach of a column of [Links] or [Lanes]: `nb` and `nbl` are from the south, `ne` and `net` from the
+    southwest."""
     found = re.fullmatch(r"(?:([nsew])b|([ns][ew]))[ltr]?", column)
     return LEGS[found[1] or found[2]] if found else None
 
@@ -45,11 +51,14 @@ def words_of(column: str) -> str:
 
 
 class Utdf:
-    """A file: its cells by section, node, record and column; a section that has no records or no nodes has "" for them."""
+    """A file: its cells by section, node, record and column; a section that has no records or no nodes has "" for
+    them."""
 
     def __init__(self, place: Place) -> None:
         self.place = place
-        self.cells: dict[str, dict[str, dict[str, dict[str, Cell]]]] = defaultdict(lambda: defaultdict(lambda: defaultdict(dict)))
+        self.cells: dict[str, dict[str, dict[str, dict[str, Cell]]]] = defaultdict(
+            lambda: defaultdict(lambda: defaultdict(dict))
+        )
         self.lines: dict[str, int] = {}
         section, header = "", list[str]()
         rows = csv.reader(io.StringIO(text_of(place), newline=""))
@@ -65,7 +74,11 @@ class Utdf:
                     header = self._header(section, fields, line)
         missing = next((name for name in SECTIONS if name not in self.cells), None)
         if missing is not None:
-            self.fail(self.lines.get(missing, 1), f"there is no section [{missing.capitalize()}] with rows: export all of Network, Nodes, Links, Lanes, Timeplans and Phases")
+            self.fail(
+                self.lines.get(missing, 1),
+                f"there is no section [{missing.capitalize()}] with rows: export all of Network, Nodes, Links, Lanes, "
+                f"Timeplans and Phases",
+            )
 
     def fail(self, line: int, words: str) -> NoReturn:
         """Refuses a line."""
@@ -79,25 +92,39 @@ class Utdf:
         wanted = HEADERS.get(section, ("recordname", "intid"))
         missing = next((name for name in wanted if name not in names), None)
         if missing is not None:
-            self.fail(line, f"[{section.capitalize()}]: the header has no column {missing.upper()}: write {','.join(wanted).upper()} and the others")
+            self.fail(
+                line,
+                f"[{section.capitalize()}]: the header has no column {missing.upper()}: write "
+                f"{','.join(wanted).upper()} and the others",
+            )
         return names
 
     def _row(self, section: str, header: list[str], fields: list[str], line: int) -> None:
         while len(fields) > len(header) and not fields[-1].strip():
             fields.pop()
         if len(fields) > len(header):
-            self.fail(line, f"[{section.capitalize()}]: the row has {len(fields)} fields, and its header {len(header)}: take out what is too much, or quote a comma")
+            self.fail(
+                line,
+                f"[{section.capitalize()}]: the row has {len(fields)} fields, and its header {len(header)}: take out "
+                f"what is too much, or quote a comma",
+            )
         row = {name: field.strip() for name, field in zip(header, fields)}
         node, record = row.pop("intid", ""), plain(row.pop("recordname", ""))
         if section not in ("network", "nodes") and node not in self.cells["nodes"]:
-            self.fail(line, f"[{section.capitalize()}]: junction {node}: [Nodes] has no INTID {quote(node)}: write its row there, above")
+            self.fail(
+                line,
+                f"[{section.capitalize()}]: junction {node}: [Nodes] has no INTID {quote(node)}: write its row there, "
+                f"above",
+            )
         self.cells[section][node][record] |= {name: Cell(text, line) for name, text in row.items() if text}
 
     def cell(self, section: str, node: str, record: str, column: str) -> Cell | None:
         """What stands there, or None."""
         return self.cells[section].get(node, {}).get(record, {}).get(column)
 
-    def number(self, section: str, node: str, record: str, column: str, default: float = 0.0, least: float = 0.0) -> float:
+    def number(
+        self, section: str, node: str, record: str, column: str, default: float = 0.0, least: float = 0.0,
+    ) -> float:
         """The number that stands there, or the default."""
         cell = self.cell(section, node, record, column)
         if cell is None:
@@ -107,7 +134,10 @@ class Utdf:
         except ValueError:
             value = float("nan")
         if not least <= value <= 1e9:
-            self.fail(cell.line, f"junction {node}{words_of(column)}: {record} is {quote(cell.text)}: write a number from {least:g} up")
+            self.fail(
+                cell.line,
+                f"junction {node}{words_of(column)}: {record} is {quote(cell.text)}: write a number from {least:g} up",
+            )
         return value
 
     def line(self, section: str, node: str) -> int:

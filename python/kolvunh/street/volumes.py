@@ -1,4 +1,5 @@
-"""Turning counts as what enters a network and how it turns. Totals at entries are those of the counts; inner approaches are scaled to what
+"""Turning counts as what enters a network and how it turns. Totals at entries are those of the counts; inner
+approaches are scaled to what
 their neighbours send, and what that changes is told."""
 
 import random
@@ -50,13 +51,17 @@ class Volumes:
         return self.rows[count.key][0].kind
 
     def _known(self, counts: Sequence[Count]) -> list[Count]:
-        """The counts of movements that the network has; others may only be 0. Those who turn back count as to the left."""
+        """The counts of movements that the network has; others may only be 0. Those who turn back count as to the
+        left."""
         found, back = list[Count](), Counter[tuple[str, str]]()
         junctions = list(dict.fromkeys(key[0] for key in self.rows))
         for count in counts:
             name = count.junction or (junctions[0] if len(junctions) == 1 else "")
             if name not in junctions:
-                words = f"the network has no junction {name!r}: write one of {', '.join(junctions)}, or say --name {name or 'OTHER'}={junctions[0]}"
+                words = (
+                    f"the network has no junction {name!r}: write one of {', '.join(junctions)}, or say --name "
+                    f"{name or 'OTHER'}={junctions[0]}"
+                )
                 raise Fault(f"{self.place}:{count.line}: {count.where}: {words}")
             count = replace(count, junction=name)
             if count.movement == "u-turn" and count.vehicles:
@@ -66,9 +71,13 @@ class Volumes:
                 found.append(count)
             elif count.vehicles:
                 known = [move for (junction, leg, move) in self.rows if (junction, leg) == (name, count.approach)]
-                words = f"the approach has {', '.join(known)}: write 0, or give" if known else "the junction has no such approach: write 0, or give it"
-                raise Fault(f"{self.place}:{count.line}: {count.where}: {count.vehicles} are counted, and {words} a lane the movement in the junction file")
-        self.told += [f"junction {name}, approach {leg}: {many} turn back, and are counted to the left" for (name, leg), many in back.items()]
+                words = f"the approach has {', '.join(known)}" if known else "the junction has no such approach"
+                raise Fault(
+                    f"{self.place}:{count.line}: {count.where}: {count.vehicles} are counted, and {words}: "
+                    f"write 0, or give a lane the movement in the junction file"
+                )
+        for (name, leg), many in back.items():
+            self.told.append(f"junction {name}, approach {leg}: {many} turn back, and are counted to the left")
         if not found:
             raise Fault(f"{self.place}: it counts no movement of the network")
         return found
@@ -84,9 +93,14 @@ class Volumes:
                 continue
             if kind == "vehicles" and (is_entry or (name, leg, kind) in self.counted):
                 line = next((count.line for count in self.counts if count.key[:2] == (name, leg)), 1)
-                raise Fault(f"{self.place}:{line}: {where}, {missing}: it is not counted: add its rows, with 0 where nobody goes there")
+                raise Fault(
+                    f"{self.place}:{line}: {where}, {missing}: it is not counted: add its rows, with 0 where nobody "
+                    f"goes there"
+                )
             if (name, leg, kind) not in self.counted and (is_entry or kind == "vehicles"):
-                self.told.append(f"{where}: {kind} are not counted, and {'none come' if is_entry else 'turn as before'}")
+                self.told.append(
+                    f"{where}: {kind} are not counted, and {'none come' if is_entry else 'turn as before'}"
+                )
 
     def _link(self, row: Serving) -> Link:
         link = self.network.link_named(row.link)
@@ -109,11 +123,14 @@ class Volumes:
         return found
 
     def _with_turns(self) -> Network:
-        """The network with the counted shares, the rates of those who give way by them, and a run as long as the counts."""
+        """The network with the counted shares, the rates of those who give way by them, and a run as long as the
+        counts."""
         volumes, counted = self.by_link(), Counter[tuple[str, str, str]]()
         for count in self.counts:
             counted[count.key] += count.vehicles
-        turns: dict[str, dict[str, float]] = {link.name: dict.fromkeys((turn.exit for turn in link.turns), 0.0) for link in self.network.links}
+        turns: dict[str, dict[str, float]] = {
+            link.name: dict.fromkeys((turn.exit for turn in link.turns), 0.0) for link in self.network.links
+        }
         giving: dict[str, float] = defaultdict(float)
         for key, rows in self.rows.items():
             for row in rows:
@@ -122,7 +139,9 @@ class Volumes:
                 giving[row.link] += counted[key] * row.part * row.gives
         lanes = {row.link: row.lanes for rows in self.rows.values() for row in rows}
         links = tuple(
-            self._link_with(link, turns[link.name], giving[link.name] / volumes[link.name], lanes[link.name]) if volumes.get(link.name) else link
+            self._link_with(
+                link, turns[link.name], giving[link.name] / volumes[link.name], lanes[link.name],
+            ) if volumes.get(link.name) else link
             for link in self.network.links
         )
         return replace(self.network, links=links, run=self._run())
@@ -137,13 +156,19 @@ class Volumes:
         if rounds > limits.rounds or self.seconds > MOST_SECONDS:
             most = min(limits.rounds * run.step, MOST_SECONDS) // 60
             last = clock(self.begin + most)
-            raise Fault(f"{self.place}: it counts {self.seconds // 60} minutes, and a run has at most {most}: say --from {clock(self.begin)} --to {last}, or other times")
+            raise Fault(
+                f"{self.place}: it counts {self.seconds // 60} minutes, and a run has at most {most}: say --from "
+                f"{clock(self.begin)} --to {last}, or other times"
+            )
         return replace(run, rounds=rounds)
 
     def _onward(self, row: Serving, volumes: dict[str, float]) -> dict[str, float]:
-        """By which links the vehicles of a row go on: as it was counted there, else as the network has it, else alike."""
+        """By which links the vehicles of a row go on: as it was counted there, else as the network has it, else
+        alike."""
         was = {turn.exit: float(turn.share) for turn in self._link(row).turns}
-        for parts in ({exit: volumes.get(exit, 0.0) for exit in row.onward}, {exit: was.get(exit, 0.0) for exit in row.onward}):
+        for parts in (
+            {exit: volumes.get(exit, 0.0) for exit in row.onward}, {exit: was.get(exit, 0.0) for exit in row.onward},
+        ):
             whole = sum(parts.values())
             if whole:
                 return {exit: part / whole for exit, part in parts.items()}
@@ -154,13 +179,18 @@ class Volumes:
         volumes, flows = self.by_link(), self._flows(network)
         for name, leg, kind in self.groups:
             links = {row.link: self._link(row) for row in self.groups[name, leg, kind]}
-            if kind == PEOPLE or (name, leg, kind) not in self.counted or any(link.start is None for link in links.values()):
+            if kind == PEOPLE or (name, leg, kind) not in self.counted or any(
+                link.start is None for link in links.values()
+            ):
                 continue
             counted, sent = sum(volumes[link] for link in links), sum(flows[link] for link in links)
             if abs(counted - sent) >= 0.5:
                 start = next(iter(links.values())).start
                 scale = f", so its counts are scaled by {sent / counted:.2f}" if counted else ""
-                self.told.append(f"junction {name}, approach {leg}: {counted:.0f} {kind} are counted, and {start} sends {sent:.0f}{scale}")
+                self.told.append(
+                    f"junction {name}, approach {leg}: {counted:.0f} {kind} are counted, and {start} sends "
+                    f"{sent:.0f}{scale}"
+                )
 
     def _flows(self, network: Network) -> dict[str, float]:
         """What comes to each link in all, from the entries on."""
@@ -179,7 +209,8 @@ class Volumes:
         return flows
 
     def _arrivals(self, seed: int | None) -> Iterator[Arrival]:
-        """What enters, link by link and interval by interval; the vehicles of an interval are spread evenly, or drawn within it."""
+        """What enters, link by link and interval by interval; the vehicles of an interval are spread evenly, or drawn
+        within it."""
         amounts: dict[tuple[int, str], int] = Counter()
         for link, intervals in self._entering().items():
             draw = None if seed is None else random.Random(f"{seed} {link}").random
@@ -189,7 +220,8 @@ class Volumes:
         return (Arrival(second, link, amount) for (second, link), amount in amounts.items())
 
     def _entering(self) -> dict[str, Counter[tuple[int, int]]]:
-        """For each link from outside how many enter in each interval, from a minute on for so many: each goes to the link of its movement that
+        """For each link from outside how many enter in each interval, from a minute on for so many: each goes to the
+        link of its movement that
         lacks most."""
         found: dict[str, Counter[tuple[int, int]]] = {}
         given: Counter[tuple[str, str]] = Counter()
@@ -206,6 +238,7 @@ class Volumes:
 
 
 def seconds_of(begin: int, seconds: int, many: int, draw: Callable[[], float] | None) -> list[int]:
-    """The seconds in which so many vehicles come: evenly, or as a Poisson process brings them that is known to bring so many."""
+    """The seconds in which so many vehicles come: evenly, or as a Poisson process brings them that is known to bring
+    so many."""
     parts = [(number + 0.5) / many for number in range(many)] if draw is None else sorted(draw() for _ in range(many))
     return [begin + int(part * seconds) for part in parts]
