@@ -18,6 +18,7 @@ const GREEN = "#009e73", RED = "#e8a58f";
 const chosen = { report: 0, from: 0, to: END, node: 0, link: -1, street: 0, route: null, back: true, rows: "nodes", sort: -1 };
 
 const escape = (text) => String(text).replace(/[&<>"]/g, (mark) => ({ "&": "&amp;", "<": "&lt;", ">": "&gt;", '"': "&quot;" })[mark]);
+const cut = (text, most) => (text.length > most ? `${text.slice(0, most - 1)}\u2026` : text);
 const clock = (second) => `${Math.floor(second / 60)}:${String(Math.round(second % 60)).padStart(2, "0")}`;
 // The level of service of measures: of a single link, to which more comes than it lets through, the last one
 const level = ({ each, full, isSingle }) => (each === null ? null : isSingle && full > 1 ? LEVELS[LEVELS.length - 1] : LEVELS.find(([most]) => each <= most));
@@ -302,11 +303,19 @@ function drawOverview() {
 
 // ---- The street
 
+let dot = 11; // pixels from the middle of a junction to its rim
+
+// Half as far as the least distance between two junctions leaves room, and no less than can be seen
+function dotOf(points) {
+  const gaps = points.flatMap(([x, y], at) => points.slice(at + 1).map(([x2, y2]) => Math.hypot(x2 - x, y2 - y)));
+  return Math.max(3, gaps.reduce((least, gap) => Math.min(least, 0.28 * gap), 11));
+}
+
 function mapScale(wide, high) {
-  const ROOM = data.nodes.length > 12 ? 46 : Math.min(84, wide / 6);
+  const many = data.nodes.length > 12, ROOM = many ? 40 : Math.min(84, wide / 6);
   const xs = data.nodes.map((node) => node.x), ys = data.nodes.map((node) => node.y);
   const span = (list) => Math.max(...list) - Math.min(...list);
-  const scale = Math.min((wide - 2 * ROOM - 20) / (span(xs) || 1), (high - 2 * Math.min(84, high / 4)) / (span(ys) || 1));
+  const scale = Math.min((wide - 2 * ROOM - 20) / (span(xs) || 1), (high - 2 * (many ? ROOM : Math.min(84, high / 4))) / (span(ys) || 1));
   const middle = (list) => (Math.max(...list) + Math.min(...list)) / 2;
   return data.nodes.map((node) => [wide / 2 + (node.x - middle(xs)) * scale, high / 2 + (node.y - middle(ys)) * scale]);
 }
@@ -352,7 +361,7 @@ function titleOf(link, hourly, found) {
 // A link of the map as an arrow to the right of the line between two points; further ones between them are further to the right
 function arrow(link, [x1, y1], [x2, y2], run, isRoute, lane = 0, taken = []) {
   const length = Math.hypot(x2 - x1, y2 - y1) || 1, [ux, uy] = [(x2 - x1) / length, (y2 - y1) / length];
-  const shift = 5 + (data.nodes.length > 30 ? 3 : 8) * lane, room = 13;
+  const part = dot / 11, shift = (5 + (data.nodes.length > 30 ? 3 : 8) * lane) * part, room = Math.min(dot + 2, length / 3);
   const from = [x1 + ux * room - uy * shift, y1 + uy * room + ux * shift];
   const to = [x2 - ux * room - uy * shift, y2 - uy * room + ux * shift];
   for (let at = 0; at <= length; at += 8) {
@@ -360,13 +369,13 @@ function arrow(link, [x1, y1], [x2, y2], run, isRoute, lane = 0, taken = []) {
     taken.push([x - 4, y - 4, x + 4, y + 4]);
   }
   const passed = run.left[link.number][chosen.to] - run.left[link.number][chosen.from];
-  const hourly = (passed * 3.6) / (chosen.to - chosen.from), wide = 1.5 + Math.min(5, hourly / 250);
+  const hourly = (passed * 3.6) / (chosen.to - chosen.from), wide = (1.5 + Math.min(5, hourly / 250)) * part;
   const found = link.to >= 0 ? measures(run, [link], chosen.from, chosen.to, true) : null;
   const colour = found ? (level(found) ?? [0, "", "#bbb"])[2] : "#bbb";
-  const back = [to[0] - ux * 7, to[1] - uy * 7], way = `M${short(from)}L${short(to)}`;
-  const tip = `M${short(to)}L${short([back[0] - uy * 3.5, back[1] + ux * 3.5])}L${short([back[0] + uy * 3.5, back[1] - ux * 3.5])}Z`;
+  const back = [to[0] - ux * 7 * part, to[1] - uy * 7 * part], half = 3.5 * part, way = `M${short(from)}L${short(to)}`;
+  const tip = `M${short(to)}L${short([back[0] - uy * half, back[1] + ux * half])}L${short([back[0] + uy * half, back[1] - ux * half])}Z`;
   const halo = isRoute ? `<path d="${way}" stroke="#36c" stroke-opacity=".35" stroke-width="${wide + 7}"/>` : "";
-  return `<g><title>${escape(titleOf(link, hourly, found))}</title>${halo}<path d="${way}" stroke="#555" stroke-width="${wide + 1}"/>
+  return `<g><title>${escape(titleOf(link, hourly, found))}</title>${halo}<path d="${way}" stroke="#555" stroke-width="${wide + part}"/>
     <path d="${way}" stroke="${colour}" stroke-width="${wide}"/><path d="${tip}" fill="#333"/></g>`;
 }
 
@@ -386,10 +395,10 @@ function nameLeg(labels, [x, y], dx, dy, enters, leaves) {
 function junction(node, number, [x, y], found) {
   const at = level(found), isChosen = number === chosen.node;
   const title = `${node.name}: ${fixed(found.each, 1)} s a vehicle, queue up to ${found.queue[2].toFixed(1)} vehicles`;
-  const rim = isChosen ? 'stroke="#36c" stroke-width="3.5"' : 'stroke="#333"';
+  const rim = isChosen ? 'stroke="#36c" stroke-width="3.5"' : `stroke="#333" stroke-width="${Math.min(1, dot / 8)}"`;
   return `<g class="node" data-node="${number}" role="button" tabindex="0" aria-label="${escape(title)}"><title>${escape(title)}</title>
-    <circle cx="${x}" cy="${y}" r="11" fill="${at ? at[2] : "#ddd"}" ${rim}/>
-    <text x="${x}" y="${y + 4}" text-anchor="middle" style="fill:${at ? inkOn(at) : "#222"}">${at ? at[1] : ""}</text></g>`;
+    <circle cx="${x}" cy="${y}" r="${dot.toFixed(1)}" fill="${at ? at[2] : "#ddd"}" ${rim}/>
+    ${dot < 7 ? "" : `<text x="${x}" y="${y + 4}" text-anchor="middle" style="fill:${at ? inkOn(at) : "#222"}">${at ? at[1] : ""}</text>`}</g>`;
 }
 
 function nameJunction(labels, node, [x, y], found) {
@@ -403,14 +412,15 @@ function drawMap() {
   const place = find("map"), wide = place.clientWidth || 600, count = data.nodes.length, run = runs[chosen.report];
   const isFlat = count > 1 && new Set(data.nodes.map((node) => Math.round(node.y))).size === 1;
   const high = isFlat ? 260 : Math.min(Math.max(wide, 340), count === 1 ? 470 : 560), points = mapScale(wide, high), parts = [];
+  dot = dotOf(points);
   const steps = new Set(chosen.route.slice(1).flatMap((node, at) => [`${chosen.route[at]} ${node}`, `${node} ${chosen.route[at]}`]));
-  const lanes = new Map(), taken = points.map(([x, y]) => [x - 12, y - 12, x + 12, y + 12]);
+  const lanes = new Map(), taken = points.map(([x, y]) => [x - dot - 1, y - dot - 1, x + dot + 1, y + dot + 1]);
   for (const link of data.links.filter((each) => each.from >= 0 && each.to >= 0)) {
     const way = `${link.from} ${link.to}`, lane = lanes.get(way) ?? 0;
     lanes.set(way, lane + 1);
     parts.push(arrow(link, points[link.from], points[link.to], run, steps.has(way), lane, taken));
   }
-  const reach = count === 1 ? Math.min(170, wide / 2 - 40) : count > 30 ? 30 : Math.min(58, wide / 8);
+  const reach = count === 1 ? Math.min(170, wide / 2 - 40) : count > 30 ? 12 + 18 * (dot / 11) : Math.min(58, wide / 8);
   const found = into.map((links) => measures(run, links, chosen.from, chosen.to));
   const labels = new Labels(wide, high, taken), legs = [];
   data.nodes.forEach((_, node) => legsOf(node).forEach(({ angle, enters, leaves }) => {
@@ -478,34 +488,39 @@ function partsOf() {
   return data.nodes.map((node, number) => [node.name, into[number], number]).filter(([, links]) => links.length);
 }
 
-// The columns of a report in the table, by how many reports there are
+// The columns of a report in the table: as many of these as there is room for beside the other reports
 const COLUMNS = [
   ["delay, s", (m) => `${fixed(m.each, 1)} ${badge(m)}`],
-  [runs.length < 3 ? "queue 95" : "queue", (m) => m.queue[1].toFixed(1)],
-  [runs.length < 3 ? "failures" : "fail", (m) => `${m.failures}/${m.chances}`],
-  ...(runs.length < 3 ? [["v/c", (m) => fixed(m.full, 2)], ["on green", (m) => share(m.onGreen)]] : []),
+  ["queue", (m) => m.queue[1].toFixed(1)],
+  ["failed", (m) => `${m.failures}/${m.chances}`],
+  ["v/c", (m) => fixed(m.full, 2)],
+  ["on green", (m) => share(m.onGreen)],
 ];
+const columnsIn = (wide) => COLUMNS.slice(0, Math.max(1, Math.floor((wide - 90) / runs.length / 58)));
 
 function drawTable() {
   const measured = (links) => runs.map((run) => measures(run, links, chosen.from, chosen.to, chosen.rows === "links"));
   const rows = partsOf().map(([name, links, node]) => ({ name, node, all: measured(links) }));
   if (chosen.sort >= 0) rows.sort((one, other) => (other.all[chosen.sort].each ?? -1) - (one.all[chosen.sort].each ?? -1));
   const mark = (place) => (chosen.sort === place ? " \u25bc" : ""), colour = (at) => `style="color:${SERIES[at % SERIES.length]}"`;
-  const wide = `colspan="${COLUMNS.length}" class="over"`;
+  const columns = columnsIn(find("table").clientWidth || 600), wide = `colspan="${columns.length}" class="over"`;
   const head = runs.map((run, at) => `<th ${wide} data-sort="${at}" ${colour(at)}><button class="plain">${escape(run.name)}${mark(at)}</button></th>`);
-  const under = runs.flatMap(() => COLUMNS.map(([label]) => `<th>${label}</th>`)).join("");
+  const under = runs.flatMap(() => columns.map(([label]) => `<th>${label}</th>`)).join("");
   const lines = rows.map(({ name, node, all }) => {
-    const cells = all.flatMap((m) => COLUMNS.map(([, say]) => `<td>${say(m)}</td>`)).join("");
+    const cells = all.flatMap((m) => columns.map(([, say]) => `<td>${say(m)}</td>`)).join("");
     return `<tr class="pick ${node === chosen.node ? "chosen" : ""}" data-node="${node}"><td><button class="plain">${escape(name)}</button></td>${cells}</tr>`;
   });
   const top = `<tr><th data-sort="-1"><button class="plain">in order${mark(-1)}</button></th>${head.join("")}</tr><tr><td></td>${under}</tr>`;
-  const kind = runs.length < 3 ? "" : "narrow";
-  find("table").innerHTML = `<table class="${kind}"><thead>${top}</thead><tbody>${lines.join("")}</tbody></table>`;
+  find("table").innerHTML = `<table><thead>${top}</thead><tbody>${lines.join("")}</tbody></table>`;
 }
 
 // ---- Time and space
 
-const between = (one, other) => data.links.find((link) => link.from === one && link.to === other);
+// The link from one junction to another: the chosen one, or else that which brings most
+function between(one, other) {
+  const links = data.links.filter((link) => link.from === one && link.to === other), most = (link) => runs[0].entered[link.number][END];
+  return links.find((link) => link.number === chosen.link) ?? links.reduce((best, link) => (best && most(best) >= most(link) ? best : link), undefined);
+}
 
 // The way over one junction: the chosen link of it, or else the one that brings most; not that of another way
 function crossingOf(node, except) {
@@ -599,7 +614,7 @@ function drawSpace() {
   });
   route.forEach((node, number) => {
     const y = chart.y(up(ups[number]));
-    chart.text(LEFT - 6, y + 4, data.nodes[node].name, "end");
+    chart.text(LEFT - 6, y + 4, cut(data.nodes[node].name, 7), "end");
     chart.text(LEFT - 6, y + 17, `${ups[number]} s`, "end", "small");
   });
   chart.draw();

@@ -133,7 +133,7 @@ def place_of(words: str) -> tuple[str, tuple[float, float]]:
 
 def read_places(place: Place) -> tuple[Places, Places]:
     """The places of nodes and of the outer ends of links in a file; on the page y goes down."""
-    found: dict[str, Places] = {"node": {}, "link": {}}
+    found: dict[str, Places] = {"node": {}, "link": {}, "begin": {}, "end": {}}  # the last two say where links meet a node, for `to-sumo`
     for row in rows_of(place, text_of(place), ("kind", "name", "x", "y")):
         kind, name, *numbers = row.fields
         try:
@@ -143,7 +143,7 @@ def read_places(place: Place) -> tuple[Places, Places]:
         if not (abs(x) <= FARTHEST and abs(y) <= FARTHEST):
             raise Fault(f"{place}:{row.line}: x and y have to be numbers of at most 9 digits, and are {quote(','.join(numbers))}")
         if kind not in found:
-            raise Fault(f"{place}:{row.line}: the kind is {quote(kind)}, and has to be node or link")
+            raise Fault(f"{place}:{row.line}: the kind is {quote(kind)}, and has to be node, link, begin or end")
         found[kind][name] = (x, -y)
     return found["node"], found["link"]
 

@@ -1,12 +1,15 @@
 """Tests of kolvunh.page and kolvunh.places; what is drawn is asked of Chromium, where that is installed."""
 
+import csv
 import json
 import math
 import re
 import shutil
+import struct
 import subprocess
 import tomllib
 import unittest
+import zlib
 from argparse import ArgumentTypeError
 from html import unescape
 
@@ -56,6 +59,31 @@ frame.onload = () => setTimeout(() => {
 }, 500);
 frame.srcdoc = TEXT;
 </script></body>"""
+
+
+def rows_of_png(data: bytes) -> list[bytes]:
+    """The rows of a PNG of 8 bits a colour without interlacing, three bytes a pixel."""
+    at, parts = 8, {b"IHDR": b"", b"IDAT": b""}
+    while at < len(data):
+        (size,) = struct.unpack(">I", data[at : at + 4])
+        kind = data[at + 4 : at + 8]
+        parts[kind] = parts.get(kind, b"") + data[at + 8 : at + 8 + size]
+        at += 12 + size
+    wide, _, _, colour = struct.unpack(">IIBB", parts[b"IHDR"][:10])
+    each, raw, rows = 4 if colour == 6 else 3, zlib.decompress(parts[b"IDAT"]), [b""]
+    for begin in range(0, len(raw), 1 + wide * each):
+        rows.append(unfiltered(raw[begin], raw[begin + 1 : begin + 1 + wide * each], rows[-1] or bytes(wide * each), each))
+    return [row if each == 3 else bytes(byte for place, byte in enumerate(row) if place % 4 < 3) for row in rows[1:]]
+
+
+def unfiltered(kind: int, row: bytes, above: bytes, each: int) -> bytes:
+    """A row of a PNG without its filter."""
+    made = bytearray(row)
+    for at in range(len(row) if kind else 0):
+        left, up, over = made[at - each] if at >= each else 0, above[at], above[at - each] if at >= each else 0
+        guess = min((left, up, over), key=lambda one: abs(left + up - over - one))
+        made[at] = (row[at] + (0, left, up, (left + up) // 2, guess)[kind]) & 255
+    return bytes(made)
 
 
 class PlacesTest(unittest.TestCase):
@@ -136,12 +164,7 @@ class PageTest(FilesTest):
 
     @unittest.skipUnless(CHROMIUM, "Chromium is not installed")
     def test_a_narrow_page_with_odd_names(self) -> None:
-        files = [EXAMPLES / "corridor.toml", EXAMPLES / "corridor.csv"]
-        world = World(read_network(files[0]), read_arrivals(files[1]))
-        world.run(max_pressure)
-        report = self.file(world.report_text(), "report.csv")
-        odd = '"><img src onerror><b>it\'s</b>'
-        text = page.answer([*map(str, files), f"{odd}={report}", f"b={report}", f"c={report}", "--title", odd])
+        text = self.odd_page()
         made = self.dom(NARROW.replace("TEXT", json.dumps(text).replace("</", "<\\/")))
         body = re.search(r"<body([^>]*)>", made)[1]
         self.assertLessEqual(int(re.search(r'data-wide="(\d+)"', body)[1]), 390)
@@ -158,9 +181,44 @@ class PageTest(FilesTest):
         for said in ('data-junctions="A-"', 'data-links="F---"'):
             self.assertIn(said, body)
 
+    def odd_page(self) -> str:
+        """The page of a street whose names have quotes and tags, with three reports."""
+        odd = '"><img src onerror><b>it\'s</b>'
+        network = (EXAMPLES / "corridor.toml").read_text().replace('"second"', json.dumps("<b>'second'</b>")).replace('"second_third"', json.dumps(odd))
+        files = [self.file(network, "odd.toml"), EXAMPLES / "corridor.csv"]
+        world = World(read_network(files[0]), read_arrivals(files[1]))
+        world.run(max_pressure)
+        report = self.folder / "report.csv"
+        with report.open("w", newline="") as file:
+            csv.writer(file).writerows(csv.reader(world.report_text().replace(odd, json.dumps(odd).replace('\\"', '""')).splitlines()))
+        return page.answer([*map(str, files), f"{odd}={report}", f"b={report}", f"c={report}", "--title", odd])
+
+    @unittest.skipUnless(CHROMIUM, "Chromium is not installed")
+    def test_pictures(self) -> None:
+        # Nothing is drawn at the right edge, and the map has the colours of its levels, whose letters are read by people alone.
+        shown = self.file(self.odd_page(), "shown.html").as_uri()
+        for wide, high in ((1440, 400), (390, 600)):
+            frame = f'<!doctype html><body style="margin:0"><iframe src="{shown}" style="width:{wide}px;height:{high}px;border:0"></iframe>'
+            rows = self.picture(frame, max(500, wide), high)
+            self.assertEqual({row[3 * wide - 12 : 3 * wide] for row in rows}, {b"\xff" * 12})
+            levels = {bytes.fromhex(colour) for colour in ("1a9850", "91cf60", "d9ef8b", "fee08b", "fc8d59", "d73027")}
+            found = {row[at : at + 3] for row in rows[250:] for at in range(0, 3 * wide, 3)}
+            self.assertEqual(found & levels, levels, wide)  # the key has them all
+
+    def picture(self, text: str, wide: int, high: int) -> list[bytes]:
+        """The rows of a picture of a page, three bytes a pixel."""
+        image = self.folder / "image.png"
+        flags = ["--allow-file-access-from-files", "--hide-scrollbars", f"--window-size={wide},{high}", f"--screenshot={image}"]
+        self.chromium(text, *flags)
+        return rows_of_png(image.read_bytes())
+
     def dom(self, text: str) -> str:
         """The page as Chromium makes it."""
-        flags = ["--headless", "--no-sandbox", "--disable-gpu", "--virtual-time-budget=5000", "--window-size=1400,1000", "--dump-dom"]
+        return self.chromium(text, "--window-size=1400,1000", "--dump-dom")
+
+    def chromium(self, text: str, *more: str) -> str:
+        """What Chromium writes of a page, called with these words."""
+        flags = ["--headless", "--no-sandbox", "--disable-gpu", "--virtual-time-budget=5000", *more]
         words = [CHROMIUM, *flags, f"--user-data-dir={self.folder / 'profile'}", self.file(text, "page.html").as_uri()]
         return subprocess.run(words, capture_output=True, text=True, check=True, timeout=60).stdout
 

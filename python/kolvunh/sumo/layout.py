@@ -9,6 +9,7 @@ from ..faults import Fault
 from ..records import rows_of, text_of
 from ..reports import read_report
 from .crossings import crossings_of, heading
+from .streets import finite
 
 SUMO_HOME = os.environ.setdefault("SUMO_HOME", "/usr/share/sumo")
 SPEED = 13.89  # metres a second
@@ -208,7 +209,7 @@ def read_places(path):
         return None
     try:
         rows = rows_of(path, text_of(path), ("kind", "name", "x", "y"))
-        return {(row.fields[0], row.fields[1]): (float(row.fields[2]), float(row.fields[3])) for row in rows}
+        return {(row.fields[0], row.fields[1]): (finite(row.fields[2], "x"), finite(row.fields[3], "y")) for row in rows}
     except ValueError as fault:
         raise Fault(f"{path}: x and y of a place have to be metres: {fault}") from fault
 
