@@ -177,6 +177,13 @@ class DistrictsTest(FilesTest):
         with mock.patch.object(Ring, "turns", side_effect=Fault("serve: no memory")), self.assertRaisesRegex(Fault, "^serve: no memory$"):
             self.report(2, path, arrivals)
 
+    def test_an_interrupt_stops_all_ranks(self):
+        ranks = mock.Mock(stop=mock.Mock(side_effect=SystemExit(2)))
+        with mock.patch.multiple(command, options_of=mock.Mock(), Serving=mock.MagicMock(), ranks_here=lambda: ranks, run_district=mock.Mock(side_effect=KeyboardInterrupt)):
+            with contextlib.redirect_stderr(io.StringIO()) as said, self.assertRaises(SystemExit):
+                command.work()
+        self.assertEqual((ranks.stop.call_count, said.getvalue()), (1, "kolvunh: interrupted\n"))
+
     @unittest.skipUnless(program(), "no program is built")
     def test_the_program(self):
         for name in ("corridor", "real_junction"):

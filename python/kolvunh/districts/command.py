@@ -139,8 +139,9 @@ def work() -> None:
         ranks = ranks_here()
         try:
             lines = run_district(options, decider, ranks)
-        except (Fault, OSError) as fault:
-            print(f"kolvunh: {fault}", file=sys.stderr)
+        except (Fault, OSError, KeyboardInterrupt, MemoryError) as fault:  # else the other ranks would wait for this one without an end
+            why = {KeyboardInterrupt: "interrupted", MemoryError: "out of memory"}.get(type(fault), str(fault))
+            print(f"kolvunh: {why}", file=sys.stderr)
             ranks.stop()
     for line in lines:
         print(line)
