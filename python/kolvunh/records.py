@@ -40,7 +40,7 @@ def records_of(text: str) -> Iterator[Record]:
 
 def rows_of(place: Place, text: str, header: Sequence[str]) -> list[Record]:
     """The records of a text after its header, which has to be this one; each has as many fields as the header. Faults name the place."""
-    records = _records_at(place, text)
+    records = records_at(place, text)
     first = next(records, None)
     wanted = ",".join(header)
     if first is None:
@@ -54,7 +54,7 @@ def rows_of(place: Place, text: str, header: Sequence[str]) -> list[Record]:
     return rows
 
 
-def _records_at(place: Place, text: str) -> Iterator[Record]:
+def records_at(place: Place, text: str) -> Iterator[Record]:
     """The records of a text; a fault, which names the place, where a field has no end that Python's reader finds."""
     try:
         yield from records_of(text)

@@ -8,7 +8,7 @@ from itertools import pairwise
 from typing import NoReturn
 
 from ..faults import Fault
-from ..records import Place, Record, quote, records_of, text_of
+from ..records import Place, Record, quote, records_at, text_of
 from .legs import COMPASS, SHORT, Movement, opposite
 from .servings import BUS, PEOPLE
 
@@ -113,7 +113,7 @@ def clock(minute: int) -> str:
 def read_counts(place: Place, names: Mapping[str, str]) -> list[Count]:
     """The counts of a file; `names` has the junctions of the network for those of the file that are called
     otherwise."""
-    rows = records_of(text_of(place))
+    rows = records_at(place, text_of(place))
     file = _header(place, rows)
     found: list[Count] = []
     for row in rows:
@@ -170,7 +170,7 @@ def _columns(file: CountFile, words: list[str]) -> None:
 
 def _counts(file: CountFile, row: Record, names: Mapping[str, str]) -> Iterator[Count]:
     """The counts of a row."""
-    cells = {kind: row.fields[at].strip() for kind, at in file.kinds.items()}
+    cells = {kind: " ".join(row.fields[at].split()) for kind, at in file.kinds.items()}
     junction = names.get(cells.get("junction", ""), cells.get("junction", ""))
     where = f"junction {junction}"
     begin = _minute(file, row, cells["begin"], where)

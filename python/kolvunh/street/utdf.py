@@ -270,7 +270,7 @@ class Reader:
             distance += self.file.number("links", up, "distance", further[0][1])
             up, before = further[0][0], up
         distance = distance * self.metre or math.dist(self.place(node), self.place(up))
-        return name_of(up) if self.types.get(up) == SIGNAL else None, distance
+        return name_of(up) if self.types.get(up) == SIGNAL and up != node else None, distance
 
     def place(self, node: str) -> tuple[float, float]:
         """Where a node is, in metres."""

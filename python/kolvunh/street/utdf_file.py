@@ -1,15 +1,13 @@
 """Reads Synchro's UTDF in CSV: docs/FORMATS.md, "UTDF". Names of sections, records and columns are compared without
 case, spaces and signs."""
 
-import csv
-import io
 import re
 from collections import defaultdict
 from dataclasses import dataclass
 from typing import NoReturn
 
 from ..faults import Fault
-from ..records import Place, quote, text_of
+from ..records import Place, quote, records_at, text_of
 from .legs import SHORT, opposite
 
 SECTIONS = ("network", "nodes", "links", "lanes", "timeplans", "phases")
@@ -61,9 +59,8 @@ class Utdf:
         )
         self.lines: dict[str, int] = {}
         section, header = "", list[str]()
-        rows = csv.reader(io.StringIO(text_of(place), newline=""))
-        for fields in rows:
-            line, first = rows.line_num, fields[0].strip() if fields else ""
+        for line, fields in records_at(place, text_of(place)):
+            first = fields[0].strip()
             if re.fullmatch(r"\[.+\]", first):
                 section, header = plain(first), []
                 self.lines[section] = line
@@ -108,8 +105,10 @@ class Utdf:
                 f"[{section.capitalize()}]: the row has {len(fields)} fields, and its header {len(header)}: take out "
                 f"what is too much, or quote a comma",
             )
-        row = {name: field.strip() for name, field in zip(header, fields)}
+        row = {name: " ".join(field.split()) for name, field in zip(header, fields)}
         node, record = row.pop("intid", ""), plain(row.pop("recordname", ""))
+        if section == "nodes" and not re.fullmatch(r"[0-9]{1,9}", node):
+            self.fail(line, f"[Nodes]: INTID is {quote(node)}: write a whole number of at most 9 digits")
         if section not in ("network", "nodes") and node not in self.cells["nodes"]:
             self.fail(
                 line,
