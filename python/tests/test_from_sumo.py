@@ -212,14 +212,14 @@ class NetworkTest(unittest.TestCase):
             f'<routeDistribution id="d"><route refId="r" probability="1"/></routeDistribution>'
             f'<vehicle id="v" route="d" depart="0:01:00"/><trip id="t" from="{start}" to="{end}" depart="5"/>'
             f'<flow id="g" from="{start}" to="{end}" begin="0" end="60" period="30"/>'
-            f'<flow id="h" from="{start}" to="{end}" begin="0" end="60" vehsPerHour="60"/><vehicle id="late" route="r" depart="9000"/>'
+            f'<flow id="h" from="{start}" to="{end}" begin="0" end="60" vehsPerHour="60"/><vehicle id="late" route="r" depart="9000"/><vehicle id="early" route="r" depart="-5"/>'
             '<flow id="i" route="r" begin="100" number="3" period="2"/><flow id="k" route="r" begin="200" end="210" probability="0.2"/>'
             '<interval begin="300" end="320"><flow id="l" route="r" period="exp(0.1)"/></interval>'
         )
         seconds = sorted(vehicle.second for vehicle in demand.vehicles)
         self.assertEqual(seconds, [0, 0, 5, 10, 15, 20, 25, 30, 60, 100, 102, 104, 200, 205, 300, 310])
         self.assertEqual({vehicle.edges for vehicle in demand.vehicles}, {tuple(way.split())})
-        self.assertEqual(list(demand.told.values()), [1])
+        self.assertEqual(list(demand.told.values()), [1, 1])
 
     def test_turns_and_counts(self) -> None:
         first = self.ways()[0].split()[1]

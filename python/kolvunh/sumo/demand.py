@@ -198,6 +198,9 @@ class Demand:
             if second >= self.end:
                 self.told[f"vehicles that start after second {self.end}, left out"] += count - number
                 return
+            if second < 0:
+                self.told["vehicles that start before second 0, left out"] += 1
+                continue
             taken = [sum_ + weight for sum_, (weight, _) in zip(taken, ways)]
             place = max(range(len(ways)), key=lambda way: taken[way])
             taken[place] -= total
