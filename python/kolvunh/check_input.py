@@ -116,7 +116,8 @@ def amount_warnings(inputs: Inputs) -> Iterator[Said]:
     amounts = [arrival.amount for arrival in inputs.arrivals]
     if amounts and max(amounts) <= MOST_COUNT:
         words = f"all amounts are at most {max(amounts)}, thousandths of a vehicle: if they count vehicles"
-        yield ("arrivals", amounts.index(max(amounts))), f"arrivals: {words}, write {VEHICLE} for each, as {VEHICLE * max(amounts)} for {max(amounts)}"
+        more = f"write {VEHICLE} for each, as {VEHICLE * max(amounts)} for {max(amounts)}"
+        yield ("arrivals", amounts.index(max(amounts))), f"arrivals: {words}, {more}"
     elif amounts and len({arrival.second for arrival in inputs.arrivals}) == 1 and any(amount % VEHICLE for amount in amounts):
         words = f"all come in second {inputs.arrivals[0].second}, and {amounts[0]} is {amounts[0] / VEHICLE:g} of a vehicle: if these are volumes of an hour"
         yield ("arrivals", 0), f"arrivals: {words}, write a row with {VEHICLE} for each vehicle, in the second in which it comes"
@@ -124,7 +125,8 @@ def amount_warnings(inputs: Inputs) -> Iterator[Said]:
         most = max(of_link, key=lambda arrival: arrival.amount)
         if most.amount >= 20 * VEHICLE:
             words = f"{most.amount / VEHICLE:g} vehicles enter in second {most.second} alone"
-            yield ("arrivals", inputs.arrivals.index(most)), f"link {link}: {words}: if they come in an interval, write a row for each second in which one comes"
+            more = "if they come in an interval, write a row for each second in which one comes"
+            yield ("arrivals", inputs.arrivals.index(most)), f"link {link}: {words}: {more}"
 
 
 def time_warnings(inputs: Inputs) -> Iterator[Said]:
@@ -151,7 +153,8 @@ def load_warnings(inputs: Inputs, node: Node) -> Iterator[Said]:
     """A node that has to carry about what it can, or more."""
     full = saturation(node, best_loads(inputs.network, node, inputs.flows))
     if full >= FULL:
-        yield node_path(inputs.network, node), f"{node.name} is at {full:.2f} of saturation" + (": more comes than can leave" if full >= 1 else ": queues will be long")
+        more = "more comes than can leave" if full >= 1 else "queues will be long"
+        yield node_path(inputs.network, node), f"{node.name} is at {full:.2f} of saturation: {more}"
 
 
 def phase_warnings(inputs: Inputs, node: Node) -> Iterator[Said]:
@@ -191,7 +194,8 @@ def green_warnings(network: Network, node: Node, loads: Sequence[float]) -> Iter
         if phase.skip and loads[number] > 0 and network.run.recall is None:
             words = "skip = true: a plan may leave it out time after time, and nothing bounds how long its vehicles wait"
             of_all = " of all its phases" if all(each.skip for each in node.phases) else ""
-            yield (*where, "skip"), f"{node.name}: phase {number}: {words}; write recall or age in [run] or a weight of its links, or leave skip out{of_all}"
+            more = f"write recall or age in [run] or a weight of its links, or leave skip out{of_all}"
+            yield (*where, "skip"), f"{node.name}: phase {number}: {words}; {more}"
         if phase.least <= phase.loss:
             words = f"least = {phase.least} is not above loss = {phase.loss}: a green of the least length serves no queue"
             yield (*where, "least"), f"{node.name}: phase {number}: {words}; write least = {phase.loss + 1} or more"
@@ -257,7 +261,8 @@ def merging_warnings(network: Network, node: Node) -> Iterator[Said]:
     ]
     if found:
         words = f"green together and into one exit are {_some(found)}, and neither gives way"
-        yield node_path(network, node), f"{node.name}: {words}; for each two that cross write yields in one of them, or a [[conflict]] and no common green"
+        more = "for each two that cross write yields in one of them, or a [[conflict]] and no common green"
+        yield node_path(network, node), f"{node.name}: {words}; {more}"
 
 
 def trapped_warnings(network: Network, node: Node) -> Iterator[Said]:
@@ -327,10 +332,12 @@ def short_warnings(inputs: Inputs) -> Iterator[Said]:
             continue
         node, _ = network.phase_of[link.name]
         on = {phase: greens[node.name, phase] for phase in network.greens_of[link.name] if (node.name, phase) in greens}
-        lets = sum(max(0, green - node.phases[phase].loss) * rate_in(network, link, phase, inputs.flows) for phase, green in on.items()) / cycles[node.name]
-        brings = inputs.flows[link.name]
+        served = {phase: max(0, green - node.phases[phase].loss) for phase, green in on.items()}
+        cycle, brings = cycles[node.name], inputs.flows[link.name]
+        lets = sum(seconds * rate_in(network, link, phase, inputs.flows) for phase, seconds in served.items()) / cycle
         if on and brings > lets:
-            words = f"{link.name} brings {brings * HOUR / VEHICLE:.0f} an hour, and its {sum(on.values())} of {cycles[node.name]} seconds let {lets * HOUR / VEHICLE:.0f} through"
+            hourly = f"{lets * HOUR / VEHICLE:.0f}"
+            words = f"{link.name} brings {brings * HOUR / VEHICLE:.0f} an hour, and its {sum(on.values())} of {cycle} seconds let {hourly} through"
             yield _plan_row(inputs, node.name), f"fixed plan: {node.name}: {words}: its queue grows; write a longer green"
 
 

@@ -4,7 +4,8 @@
                                       [--approach NAME=LINK,LINK ..] [--lanes LANES]
 
 The vehicles are moved under the report's greens by the rules of the world, and compared with the report's totals; with `--queues` they are
-taken from what the command `queues` wrote. Queues are by lane too where LANES, or `lanes.csv` beside NET, knows the lanes. What each measure means, with its unit: docs/FORMATS.md, "Measures". Nothing here is proved.
+taken from what the command `queues` wrote. Queues are by lane too where LANES, or `lanes.csv` beside NET, knows the lanes. What each measure
+means, with its unit: docs/FORMATS.md, "Measures". Nothing here is proved.
 """
 
 import argparse

@@ -7,7 +7,10 @@ from ..records import plural, quote
 from .wording import meant, thousands
 
 # Words of ./signal alone, of which the program knows nothing: what they call, and those that have no word after them.
-TOOLS = ("check-input", "explain", "summary", "measures", "page", "to-log", "from-log", "compare-seeds", "retime", "street", "counts", "from-utdf", "recommend")
+TOOLS = (
+    "check-input", "explain", "summary", "measures", "page", "to-log", "from-log", "compare-seeds", "retime", "street", "counts",
+    "from-utdf", "recommend",
+)  # fmt: skip
 ALONE = ("--build", "--version", "--help", "-h", "help")
 NUMBER = re.compile(r"0|[1-9][0-9]*")
 FORMS: dict[str, tuple[str, ...]] = {

@@ -515,7 +515,8 @@ def phaseless(net: NetworkFile, item: str) -> list[str]:
         return [net.say(path, f"it leaves the network and has no signal, and {lines} names it")] if homes else []
     node = table["to"]
     if not homes:
-        return [net.say(path, f"it ends at node {quote(node)}, and no phase of that node names it in links: write {quote(name)} into those of its phase")]
+        words = f"no phase of that node names it in links: write {quote(name)} into those of its phase"
+        return [net.say(path, f"it ends at node {quote(node)}, and {words}")]
     if len(homes) > 1:
         lines = lines if len(set(homes)) > 1 else f"in {net.name_of(homes[0])} on line {net.lines.line((*homes[0], 'links'))}"
         return [net.say(path, f"it is named {len(homes)} times, {lines}; it has to be in one phase, once")]
@@ -593,7 +594,8 @@ def walk(net: NetworkFile, item: str) -> list[str]:
     for green in net.greens(table["name"]):
         least = net.table(green)["least"]
         if least < wanted:
-            return [net.say(path, f"walk and cross are {wanted} seconds together, and {net.name_of(green)}, in which it is green, has least = {least}: write least = {wanted} or more", "walk")]
+            words = f"in which it is green, has least = {least}: write least = {wanted} or more"
+            return [net.say(path, f"walk and cross are {wanted} seconds together, and {net.name_of(green)}, {words}", "walk")]
     return []
 
 

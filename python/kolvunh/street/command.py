@@ -3,7 +3,8 @@
     ./signal street FILE FOLDER
 
 Writes `net.toml`, `movements.csv` (which link serves which movement), `lanes.csv` (the lanes of each link),
-`store.csv` (what they hold) and `places.csv` (where junctions and the open ends of links are, in metres) into FOLDER. What was computed is told. docs/FORMATS.md, "Junction file".
+`store.csv` (what they hold) and `places.csv` (where junctions and the open ends of links are, in metres) into FOLDER. What was computed is
+told. docs/FORMATS.md, "Junction file".
 """
 
 import sys
