@@ -57,6 +57,7 @@ class Volumes:
         junctions = list(dict.fromkeys(key[0] for key in self.rows))
         for count in counts:
             name = count.junction or (junctions[0] if len(junctions) == 1 else "")
+            name = name if name in junctions or f"n{name}" not in junctions else f"n{name}"
             if name not in junctions:
                 words = (
                     f"the network has no junction {name!r}: write one of {', '.join(junctions)}, or say --name "
