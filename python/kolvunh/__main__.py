@@ -65,10 +65,7 @@ def main() -> None:
         print(f"kolvunh: there is no command {words[0]!r}; there are {', '.join(MODULES)}", file=sys.stderr)
         sys.exit(2)
     sys.argv = [f"kolvunh {words[0]}", *words[1:]]
-    try:
-        importlib.import_module(f".{MODULES[words[0]]}", __package__).main()
-    except KeyboardInterrupt:  # before the command has begun
-        sys.exit(130)
+    importlib.import_module(f".{MODULES[words[0]]}", __package__).main()
 
 
 if __name__ == "__main__":

@@ -5,6 +5,7 @@ import argparse
 import contextlib
 import io
 import os
+import signal
 import sys
 from collections.abc import Callable
 from typing import Any, NoReturn
@@ -29,6 +30,8 @@ def end(work: Callable[[], int | None]) -> NoReturn:
 
     What is written is UTF-8 whatever the locale, as the files are; bytes of a file or a name that are none stand for themselves.
     """
+    if signal.getsignal(signal.SIGINT) is signal.SIG_DFL:
+        signal.signal(signal.SIGINT, signal.default_int_handler)
     if sys.stderr is None:  # else what is told goes to standard output
         sys.stderr = open(os.devnull, "w", encoding="utf-8")
     try:
