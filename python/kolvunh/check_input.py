@@ -32,6 +32,7 @@ from .toml_lines import TomlLines
 LANE_MOST, LANE_LEAST = 1000, 100  # thousandths of a vehicle a second that one lane hardly lets through, or hardly so few
 HOUR = 3600
 FULL = 0.895  # saturation, 0.90 as it is written, from which queues grow long
+FEW = 0.05  # of what a link lets through: so few are seldom in front of who gives way to them
 LEAST_CLEAR = 3  # seconds of all-red in which who is trapped inside a junction leaves it
 MOST_COUNT = 20  # an amount up to this is taken for a count of vehicles
 
@@ -324,8 +325,9 @@ def plan_warnings(inputs: Inputs) -> Iterator[Said]:
 
 
 def short_warnings(inputs: Inputs) -> Iterator[Said]:
-    """A link that brings more than its greens in a fixed plan let through."""
+    """A link that brings more than its greens in a fixed plan let through. Who gives way to few, as to a bus lane, is hardly held up by them."""
     network, cycles = inputs.network, _cycles(inputs)
+    in_front = {link.name: inputs.flows[link.name] if inputs.flows[link.name] > FEW * link.sat else 0 for link in network.links}
     greens = {(row.node, row.phase): row.green for row in inputs.plan}
     for link in network.links:
         if link.end not in cycles or link.walk is not None:
@@ -334,7 +336,7 @@ def short_warnings(inputs: Inputs) -> Iterator[Said]:
         on = {phase: greens[node.name, phase] for phase in network.greens_of[link.name] if (node.name, phase) in greens}
         served = {phase: max(0, green - node.phases[phase].loss) for phase, green in on.items()}
         cycle, brings = cycles[node.name], inputs.flows[link.name]
-        lets = sum(seconds * rate_in(network, link, phase, inputs.flows) for phase, seconds in served.items()) / cycle
+        lets = sum(seconds * rate_in(network, link, phase, in_front) for phase, seconds in served.items()) / cycle
         if on and brings > lets:
             hourly = f"{lets * HOUR / VEHICLE:.0f}"
             words = f"{link.name} brings {brings * HOUR / VEHICLE:.0f} an hour, and its {sum(on.values())} of {cycle} seconds let {hourly} through"

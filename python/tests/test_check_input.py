@@ -7,9 +7,14 @@ import sys
 import unittest
 from unittest import mock
 
+from kolvunh import arrivals_text, network_text
 from kolvunh.check_input import inputs_of, is_one_approach, load_lines, main, warnings
 from kolvunh.loads import best_loads, phase_loads
 from kolvunh.networks import Link, Network, Node, Phase, Run
+from kolvunh.street.command import write_draft
+from kolvunh.street.counts import demand_of
+from kolvunh.street.draft import Drafter
+from kolvunh.street.junction_file import read_street
 
 from . import worked
 from .worked import FilesTest
@@ -124,6 +129,14 @@ class CheckInputTest(FilesTest):
         roads = [Link("oak_eb", 9, 500, end="oak"), Link("oak_ebl", 9, 500, end="oak"), Link("elm_eb", 9, 500, "oak", "elm"), Link("bus", 9, 500, "oak", "elm")]
         alike = {(one.name, other.name) for one, other in itertools.combinations(roads, 2) if is_one_approach(one, other)}
         self.assertEqual(alike, {("oak_eb", "oak_ebl"), ("elm_eb", "bus")})
+
+    def test_the_arterial_with_its_counts_and_plan(self):
+        streets = worked.EXAMPLES / "streets"
+        street = read_street(streets / "arterial.toml")
+        write_draft(Drafter(street).draft(), street, self.folder)
+        demand = demand_of(self.folder / "net.toml", streets / "arterial_counts.csv")
+        files = self.file(network_text(demand.network), "counted.toml"), self.file(arrivals_text(demand.arrivals), "arrivals.csv")
+        self.assertEqual(warnings(inputs_of(*files, streets / "arterial_plan.csv")), [])
 
     def test_who_gives_way_lets_less_through(self):
         inputs = self.real()
