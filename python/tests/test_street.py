@@ -38,6 +38,8 @@ FAULTS = [
     ("green = [2, 6]", "green = [2, 9]", ("junction x, stage 1", "9")),
     ("green = [2, 6]", "green = [2, 6, 4]", ("junction x, stage 1",)),
     ("green = [4, 8]", "green = [4]", ("junction x", "green in no stage")),
+    ("[street]", "[run]\nrounds = 99999\n[street]", (":3: run: rounds is 99999", "from 1 to 17280")),
+    ("[street]", '[run]\nstep = "2"\n[street]', ("run: step is '2'", "from 1 to 30")),
     ("green = [4, 8]", "green = [4, 8]\nleast = 60\ngreatest = 40", ("junction x, stage 2", "greatest")),
 ]
 

@@ -5,6 +5,7 @@ from collections.abc import Mapping
 from typing import Any, NoReturn
 
 from ..faults import Fault
+from ..explain.networks import BOUNDS as BOUNDS_OF
 from ..networks import read_tables
 from ..records import Place, quote, text_of
 from ..toml_lines import Path, TomlLines
@@ -14,6 +15,7 @@ from .plan import Approach, Crossing, Green, Junction, Lane, Left, Stage, Street
 NAME = re.compile(r"[a-z0-9_]{1,11}")
 RUN = {"step": 2, "look": 70, "gap": 1, "rounds": 900, "split": True, "age": 20, "hold": 4, "recall": 60, "act_step": 1}
 RUN_KEYS = (*RUN, "rate")
+RUN_BOUNDS = BOUNDS_OF["run"]
 STREET_KEYS = ("speed", "sat", "distance", "nema")
 JUNCTION_KEYS = ("name", "approach", "crossing", "stage", "width", "nema")
 APPROACH_KEYS = ("lanes", "left", "next", "distance", "speed", "turns", "grade", "out")
@@ -66,7 +68,7 @@ def read_street(place: Place) -> Street:
     file = Reader(place)
     top = file.table(file.tables, (), "the file", ("street", "run", "junction"))
     own = file.table(top.get("street", {}), ("street",), "street", STREET_KEYS)
-    run = file.table(top.get("run", {}), ("run",), "run", RUN_KEYS)
+    run = _run(file, top.get("run", {}))
     tables = top.get("junction")
     if not isinstance(tables, list) or not tables:
         file.fail((), "the file", "it has no junction: write [[junction]] and its name, approaches and stages")
@@ -77,9 +79,23 @@ def read_street(place: Place) -> Street:
             file.fail(("junction", number, "name"), f"junction {junction.name}", "an earlier junction has this name: write another one")
         junctions[junction.name] = junction
     sat = file.number(own, "sat", ("street",), "street", 1800) or 1800
-    street = Street(str(place), junctions, sat, RUN | dict(run))
+    street = Street(str(place), junctions, sat, run)
     _meet_neighbours(street)
     return street
+
+
+def _run(file: Reader, value: Any) -> dict[str, int | bool]:
+    """The keys of the run, each as a network file may have it."""
+    table = file.table(value, ("run",), "run", RUN_KEYS)
+    for key, found in table.items():
+        if key == "split":
+            if not isinstance(found, bool):
+                file.fail(("run", key), "run", f"split is {found!r}: write true or false")
+            continue
+        least, most, _ = RUN_BOUNDS[key]
+        if not isinstance(found, int) or isinstance(found, bool) or not least <= found <= most:
+            file.fail(("run", key), "run", f"{key} is {found!r}: write a whole number from {least} to {most}")
+    return RUN | dict(table)
 
 
 def _junction(file: Reader, value: Any, path: Path, own: Mapping[str, Any]) -> Junction:
