@@ -51,13 +51,13 @@ def end(work: Callable[[], int | None]) -> NoReturn:
 
 
 def _words_of(fault: Fault | OSError | MemoryError) -> str:
-    """A fault in words; one of the system that names no file is of standard output."""
+    """A fault in words; one of the system that names no file is of what was written, most often to standard output."""
     if isinstance(fault, BrokenPipeError):
         return "standard output was closed before all was written"
     if isinstance(fault, MemoryError):
         return "out of memory"
     is_output = isinstance(fault, OSError) and fault.filename is None and fault.strerror
-    return f"standard output could not be written: {fault.strerror}; what was written is no whole answer" if is_output else str(fault)
+    return f"{fault.strerror}: what is written is no whole answer" if is_output else str(fault)
 
 
 def _drop_output() -> None:

@@ -2,7 +2,7 @@
 
 import contextlib
 import os
-from collections.abc import Mapping
+from collections.abc import Iterator, Mapping
 from pathlib import Path
 
 from .faults import Fault
@@ -37,6 +37,22 @@ def write_files(folder: Place, texts: Mapping[str, str]) -> None:
                 home.rmdir()
         if isinstance(fault, OSError):
             raise Fault(f"{home}: {fault.strerror or fault}: {', '.join(texts)} can't be written there") from fault
+        raise
+
+
+@contextlib.contextmanager
+def nothing_left(folder: Path) -> Iterator[None]:
+    """Makes a folder where there is none, and what stops the work on its files leaves none there that are new."""
+    before = set(folder.iterdir()) if folder.is_dir() else None
+    folder.mkdir(parents=True, exist_ok=True)
+    try:
+        yield
+    except BaseException:
+        with contextlib.suppress(OSError):
+            for path in set(folder.iterdir()) - (before or set()):
+                path.unlink()
+            if before is None:
+                folder.rmdir()
         raise
 
 

@@ -3,7 +3,7 @@
 import os
 
 from kolvunh import Fault
-from kolvunh.files import write_file, write_files
+from kolvunh.files import nothing_left, write_file, write_files
 
 from .worked import FilesTest
 
@@ -22,6 +22,18 @@ class FilesWrittenTest(FilesTest):
         with self.assertRaises(KeyError):
             write_files(self.folder / "other", Stopped({"a": "1"}))
         self.assertEqual(os.listdir(self.folder), ["new"])
+
+    def test_what_is_stopped_leaves_nothing(self) -> None:
+        home = self.folder / "new"
+        with self.assertRaises(KeyboardInterrupt), nothing_left(home):
+            (home / "a").touch()
+            raise KeyboardInterrupt
+        self.assertFalse(home.exists())
+        self.file("kept", "kept")
+        with self.assertRaises(KeyboardInterrupt), nothing_left(self.folder):
+            (self.folder / "a").touch()
+            raise KeyboardInterrupt
+        self.assertEqual(os.listdir(self.folder), ["kept"])
 
     def test_links_and_what_is_no_file(self) -> None:
         kept, link = self.file("kept", "kept"), self.folder / "link"

@@ -25,6 +25,7 @@ from xml.sax.saxutils import quoteattr
 
 from ..commands import Words, end
 from ..faults import Fault
+from ..files import nothing_left
 from ..networks import read_tables
 from .crossings import edges_at
 from .groups import WALKING
@@ -283,7 +284,12 @@ def ways_on_foot(layout, path):
 
 def convert(network, places, folder):
     """Writes DIR/net.net.xml, and answers what its signals show."""
-    folder.mkdir(parents=True, exist_ok=True)
+    with nothing_left(folder):
+        return converted(network, places, folder)
+
+
+def converted(network, places, folder):
+    """The same in a folder that is there."""
     layout = Layout(network, places)
     path = folder / "net.net.xml"
     plain = [
