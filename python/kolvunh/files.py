@@ -5,6 +5,11 @@ import os
 from collections.abc import Iterator, Mapping
 from pathlib import Path
 
+try:
+    import fcntl
+except ImportError:  # not on Windows
+    fcntl = None  # type: ignore[assignment]
+
 from .faults import Fault
 from .records import Place
 
@@ -38,6 +43,24 @@ def write_files(folder: Place, texts: Mapping[str, str]) -> None:
         if isinstance(fault, OSError):
             raise Fault(f"{home}: {fault.strerror or fault}: {', '.join(texts)} can't be written there") from fault
         raise
+
+
+_CLAIMED: dict[Path, int] = {}
+
+
+def claim(folder: Path) -> None:
+    """Keeps a folder for this process until it ends, where the system can: a second one, which would write over its files, is refused."""
+    if fcntl is None or folder.resolve() in _CLAIMED:
+        return
+    handle = os.open(folder, os.O_RDONLY)
+    try:
+        fcntl.flock(handle, fcntl.LOCK_EX | fcntl.LOCK_NB)
+    except OSError as fault:
+        os.close(handle)
+        if isinstance(fault, BlockingIOError):
+            raise Fault(f"{folder}: another run is at work in this folder: take another one, or wait for its end") from fault
+        return
+    _CLAIMED[folder.resolve()] = handle
 
 
 @contextlib.contextmanager

@@ -1,11 +1,13 @@
 """Tests of kolvunh.files."""
 
 import os
+import subprocess
+import sys
 
 from kolvunh import Fault
-from kolvunh.files import nothing_left, write_file, write_files
+from kolvunh.files import claim, nothing_left, write_file, write_files
 
-from .worked import FilesTest
+from .worked import ROOT, FilesTest
 
 
 class FilesWrittenTest(FilesTest):
@@ -34,6 +36,17 @@ class FilesWrittenTest(FilesTest):
             (self.folder / "a").touch()
             raise KeyboardInterrupt
         self.assertEqual(os.listdir(self.folder), ["kept"])
+
+    def test_one_run_at_a_time_in_a_folder(self) -> None:
+        # Another process has the folder; when it ends, the folder is free.
+        words = [sys.executable, "-c", "import sys, pathlib; from kolvunh.files import claim; claim(pathlib.Path(sys.argv[1])); print(1, flush=True); input()"]
+        run = subprocess.Popen([*words, self.folder], stdin=subprocess.PIPE, stdout=subprocess.PIPE, cwd=ROOT / "python")
+        self.assertEqual(run.stdout.read(1), b"1")
+        with self.assertRaisesRegex(Fault, "another run is at work"):
+            claim(self.folder)
+        run.communicate(b"\n")
+        claim(self.folder)
+        claim(self.folder)
 
     def test_links_and_what_is_no_file(self) -> None:
         kept, link = self.file("kept", "kept"), self.folder / "link"

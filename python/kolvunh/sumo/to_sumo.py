@@ -25,7 +25,7 @@ from xml.sax.saxutils import quoteattr
 
 from ..commands import Words, end
 from ..faults import Fault
-from ..files import nothing_left
+from ..files import claim, nothing_left
 from ..networks import read_tables
 from .crossings import edges_at
 from .groups import WALKING
@@ -285,6 +285,7 @@ def ways_on_foot(layout, path):
 def convert(network, places, folder):
     """Writes DIR/net.net.xml, and answers what its signals show."""
     with nothing_left(folder):
+        claim(folder)
         return converted(network, places, folder)
 
 
