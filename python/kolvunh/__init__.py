@@ -12,6 +12,7 @@ from . import measures
 from .arrivals import Arrival, arrivals_text, read_arrivals
 from .faults import Fault
 from .frames import frame_of
+from .lanes import read_lanes
 from .measures import Measures, Study, study_of
 from .network_text import network_text, write_network
 from .networks import Network, read_network
@@ -26,6 +27,6 @@ __version__ = "1.0"
 
 __all__ = [
     "Arrival", "Fault", "Measures", "Network", "PlanRow", "Report", "Serving", "Study", "World",
-    "arrivals_text", "frame_of", "max_pressure", "measures", "network_text", "read_arrivals", "read_network", "read_plan",
-    "read_queues", "read_report", "run", "study_of", "write_network",
+    "arrivals_text", "frame_of", "max_pressure", "measures", "network_text", "read_arrivals", "read_lanes", "read_network",
+    "read_plan", "read_queues", "read_report", "run", "study_of", "write_network",
 ]  # fmt: skip

@@ -25,7 +25,7 @@ from .faults import Fault
 from .loads import best_loads, link_flows, rate_in, saturation
 from .networks import GREAT, MOST_SECONDS, Link, Network, Node, Phase, limits_of, network_faults, read_network
 from .plans import PlanRow, read_plan
-from .records import Record, plural, quote, records_of, text_of
+from .records import plural, quote, records_of, text_of
 from .signs import gives_way_in
 from .toml_lines import TomlLines
 
@@ -72,17 +72,32 @@ class Inputs:
     def place_of(self, where: Where) -> str:
         """`FILE:LINE` of where something is; the file alone where it has no such line."""
         kind, *row = where
-        file = self.files[("arrivals", "plan").index(kind) + 1 if kind in ("arrivals", "plan") else 0]
-        line = self._toml.line(where) if file == self.files[0] else next(itertools.islice(self._rows(file), 1 + int(row[0]), None), (None,))[0]
-        return f"{file}:{line}" if line else file
+        if kind not in ("arrivals", "plan"):
+            return at(self.files[0], self._toml.line(where))
+        lines = self._arrival_lines if kind == "arrivals" else self._plan_lines
+        return at(self.files[1 if kind == "arrivals" else 2], lines[int(row[0])] if int(row[0]) < len(lines) else None)
 
     @cached_property
     def _toml(self) -> TomlLines:
         return TomlLines(text_of(self.files[0]))
 
-    @staticmethod
-    def _rows(file: str) -> Iterator[Record]:
-        return records_of(text_of(file))
+    @cached_property
+    def _arrival_lines(self) -> list[int]:
+        return lines_of_rows(self.files[1])
+
+    @cached_property
+    def _plan_lines(self) -> list[int]:
+        return lines_of_rows(self.files[2])
+
+
+def at(file: str, line: int | None) -> str:
+    """`FILE:LINE`, or the file alone."""
+    return f"{file}:{line}" if line else file
+
+
+def lines_of_rows(file: str) -> list[int]:
+    """The line of each row of a file of records after its header."""
+    return [row.line for row in records_of(text_of(file))][1:]
 
 
 def node_path(network: Network, node: Node, *more: str | int) -> Where:

@@ -13,6 +13,7 @@ from tempfile import TemporaryDirectory
 from .check_input import say_worst
 from .commands import Words, end
 from .arrivals import VEHICLE
+from .lanes import lanes_beside
 from .measure_values import Measures, quotient
 from .measures import Study, study_of
 from .networks import Network, network_faults, read_network
@@ -44,7 +45,8 @@ def _longest(rows: Sequence[Measures], study: Study) -> str:
     if not longest.queue_most:
         return "there is none"
     second = study.flows[longest.name].queue.index(round(longest.queue_most * VEHICLE))
-    return f"{few(longest.queue_most)} vehicles on {longest.name}, first after {second} seconds"
+    back = f", {longest.metres_most:.0f} m back in its longest lane" if longest.metres_most is not None else ""
+    return f"{few(longest.queue_most)} vehicles on {longest.name}{back}, first after {second} seconds"
 
 
 def _lengths(row: Measures) -> str:
@@ -104,7 +106,8 @@ def answer(words: Sequence[str] | None = None) -> str:
             run_report(options.network, options.arrivals, report)
         with network_faults(options.network):
             network = read_network(options.network)
-            lines = lines_of(network, study_of(network, options.arrivals, report))
+            study = study_of(network, options.arrivals, report, lanes=lanes_beside(network, options.network))
+            lines = lines_of(network, study)
     return "".join(f"{name:12}{line}\n" for name, line in lines)
 
 
