@@ -53,7 +53,8 @@ Acts net under made round node =
 
 -- each node of the network acts in each of the first `rounds` rounds
 abbrev pub AllAct : Net → ((ℕ → ℕ → Sign) → ℕ → ℕ → ℕ → Cumulative) → (ℕ → ℕ → List Green) → ℕ → Type 0
-AllAct net under made rounds = (round node : ℕ) → round < rounds → node < length net.node_names → Acts net under made round node
+AllAct net under made rounds =
+    (round node : ℕ) → round < rounds → node < length net.node_names → Acts net under made round node
 
 -- what passes the links until the last round is over
 abbrev pub cumulative_by : Net → (ℕ → ℕ → ℕ) → (ℕ → ℕ → List Green) → ℕ → ℕ → Cumulative
@@ -63,8 +64,11 @@ cumulative_by net arriving made = cumulative_under net arriving (shown_in net ma
 -- node, and what the world has counted of each link and in all when the last round is over.
 pub record IsActRunBy (net : Net) (arriving : ℕ → ℕ → ℕ) (made : ℕ → ℕ → List Green) (run : LineRun) : Type 0 where
   pub acts : AllAct net (cumulative_under net arriving) made (act_rounds net)
-  pub timelines : run.timelines ≡ map (line_before (first_line net) made (act_rounds net)) (range_with_len 0 (length net.node_names))
-  pub links : run.links ≡ map (link_totals net (cumulative_by net arriving made) (end_of_run net)) (range_with_len 0 (length net.link_names))
+  pub timelines : run.timelines
+      ≡ map (line_before (first_line net) made (act_rounds net)) (range_with_len 0 (length net.node_names))
+  pub links : run.links
+      ≡ map (link_totals net (cumulative_by net arriving made) (end_of_run net))
+      (range_with_len 0 (length net.link_names))
   pub all : run.totals ≡ totals net arriving (cumulative_by net arriving made) (end_of_run net)
 
 -- the record of the run of a network and arrivals
@@ -80,4 +84,5 @@ ShowsSigns net made run =
 
 -- each queue of a link without a walk loses something within the bound of its phase, where it has one
 abbrev pub KeepsWaits : Net → (ℕ → ℕ → ℕ) → (ℕ → ℕ → List Green) → Type 0
-KeepsWaits net arriving made = AreWaitsWithin net (actuated_bounds net) (cumulative_by net arriving made) (end_of_run net)
+KeepsWaits net arriving made =
+    AreWaitsWithin net (actuated_bounds net) (cumulative_by net arriving made) (end_of_run net)

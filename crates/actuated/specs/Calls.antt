@@ -23,7 +23,8 @@ calling net node sensed k = sum_by (amount_near sensed net.run.gap) (phase_links
 
 -- what calls for each phase of a node, where this is near on each link
 abbrev pub calls_by : Net → (ℕ → ℕ) → ℕ → List ℕ
-calls_by net near node = map (λ k. sum_by near (phase_links_at net node k)) (range_with_len 0 (length (plan_at net node)))
+calls_by net near node =
+    map (λ k. sum_by near (phase_links_at net node k)) (range_with_len 0 (length (plan_at net node)))
 
 -- whether another phase than this is called
 abbrev pub another_calls : List ℕ → ℕ → Bool
@@ -35,7 +36,8 @@ is_held calls s = calls_for calls s || not (another_calls calls s)
 
 -- when the green of a head ends: as late as it may where it is held, and else as soon as it may
 abbrev pub held_until : List Phase → Head → List ℕ → ℕ
-held_until plan head calls = if is_held calls head.phase then head.since + (phase_at plan head.phase).greatest else earliest_end plan head
+held_until plan head calls =
+    if is_held calls head.phase then head.since + (phase_at plan head.phase).greatest else earliest_end plan head
 
 -- the line from a head: its green, and then the ring turns, stopping at phases that are unmarked or called, or, where no other is, at
 -- the next one

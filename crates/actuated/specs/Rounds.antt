@@ -35,7 +35,8 @@ pub record IsRenewed (net : Net) (calls : List ℕ) (second node : ℕ) (old new
 -- the first nodes have renewed their lines by what is near on each link, and the others have the old ones
 pub record AreRenewed (net : Net) (near : List ℕ) (second nodes : ℕ) (old new : List (List Green)) : Type 0 where
   pub count : length new ≡ length old
-  pub renewed : (node : ℕ) → node < nodes → IsRenewed net (calls_by net (slice_index near) node) second node (line_in old node) (line_in new node)
+  pub renewed : (node : ℕ) → node < nodes
+      → IsRenewed net (calls_by net (slice_index near) node) second node (line_in old node) (line_in new node)
   pub rest : (node : ℕ) → nodes ≤ node → line_in new node ≡ line_in old node
 
 -- a number for each link, which together are no more than may ever be on the road

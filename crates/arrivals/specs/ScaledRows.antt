@@ -10,7 +10,8 @@ use Rattle.arrivals.specs.Scaling.{total_entered, share_of}
 -- new rows are lawful where the old ones are, and bring an amount more to a link in a second
 pub record Brings (net : Net) (link second amount : ℕ) (old new : List ArrivalRow) : Type 0 where
   pub lawful : All (IsRow net) old → All (IsRow net) new
-  pub each : (l x : ℕ) → arriving_by new x l ≡ arriving_by old x l + (if (link == l) && (second == x) then amount else 0)
+  pub each : (l x : ℕ)
+      → arriving_by new x l ≡ arriving_by old x l + (if (link == l) && (second == x) then amount else 0)
   pub whole : sum_by amount_of new ≡ sum_by amount_of old + amount
 
 -- what the scaled arrivals have of an amount, after what entered its link before
@@ -20,5 +21,6 @@ next_share factor before amount = share_of factor (before + amount) - share_of f
 -- the rows bring what the scaled arrivals have of these rows of arrivals
 pub record HaveCome (net : Net) (factor : ℕ) (come rows : List ArrivalRow) : Type 0 where
   pub lawful : All (IsRow net) rows
-  pub shares : (link n : ℕ) → total_entered (arriving_by rows) link n ≡ share_of factor (total_entered (arriving_by come) link n)
+  pub shares : (link n : ℕ)
+      → total_entered (arriving_by rows) link n ≡ share_of factor (total_entered (arriving_by come) link n)
   pub whole : sum_by amount_of rows ≡ total (λ link. share_of factor (amount_to come link)) (length net.link_names)

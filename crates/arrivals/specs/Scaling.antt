@@ -18,8 +18,10 @@ total_entered arriving link n = total (λ second. arriving second link) n
 
 -- what enters is scaled by a factor: of all that entered a link in the first n seconds, `factor` thousandths then do, rounded down
 abbrev pub IsScaled : ℕ → (ℕ → ℕ → ℕ) → (ℕ → ℕ → ℕ) → Type 0
-IsScaled factor arriving scaled = (link n : ℕ) → total_entered scaled link n ≡ share_of factor (total_entered arriving link n)
+IsScaled factor arriving scaled =
+    (link n : ℕ) → total_entered scaled link n ≡ share_of factor (total_entered arriving link n)
 
 -- all that enters the links of a network once it is scaled by a factor
 abbrev pub scaled_whole : Net → ℕ → (ℕ → ℕ → ℕ) → ℕ
-scaled_whole net factor arriving = total (λ link. share_of factor (total_entered arriving link most_seconds)) (length net.link_names)
+scaled_whole net factor arriving =
+    total (λ link. share_of factor (total_entered arriving link most_seconds)) (length net.link_names)

@@ -34,7 +34,8 @@ IsRefused net r number whole _ = ⊥
 abbrev pub Reads : Net → List (List ℕ) → ℕ → Result ArrivalRow RowFault → Type 0
 Reads net fields number (Ok r) = parse_in net fields ≡ Some r
 Reads net fields number (Err (Row n)) = (n ≡ number) × (parse fields ≡ None)
-Reads net fields number (Err (Link n)) = (n ≡ number) × IsSomeAnd (parse fields) (λ t. number_of net.link_names t.name ≡ None)
+Reads net fields number (Err (Link n)) =
+    (n ≡ number) × IsSomeAnd (parse fields) (λ t. number_of net.link_names t.name ≡ None)
 Reads net fields number (Err _) = ⊥
 
 -- the rows are those that these records tell, and they are lawful
@@ -44,7 +45,9 @@ pub record HasRead (net : Net) (records : List (List (List ℕ))) (rows : List A
 
 -- the record with this number tells no row, or its row is refused after these
 abbrev pub IsFaultAt : Net → List ArrivalRow → List (List ℕ) → ℕ → RowFault → Type 0
-IsFaultAt net rows fields number fault = Reads net fields number (Err fault) ⊎ ((r : ArrivalRow) × (parse_in net fields ≡ Some r) × IsRefused net r number (sum_by amount_of rows) fault)
+IsFaultAt net rows fields number fault =
+    Reads net fields number (Err fault)
+    ⊎ ((r : ArrivalRow) × (parse_in net fields ≡ Some r) × IsRefused net r number (sum_by amount_of rows) fault)
 
 -- a number by which rows are in order: the second counts more than the link
 abbrev pub order_of : ArrivalRow → ℕ

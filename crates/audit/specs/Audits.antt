@@ -54,7 +54,8 @@ abbrev pub AllRows : (List Phase → List Green → ℕ → Type 0) → Net → 
 AllRows Fact net lines node = (k : ℕ) → k < length (line_in lines node) → Fact (plan_at net node) (line_in lines node) k
 
 -- it fails first at this row, from 1, of this node: the least node with a row of which it does not hold, and the least such row
-pub record IsFirstRow (Fact : List Phase → List Green → ℕ → Type 0) (net : Net) (lines : List (List Green)) (node row : ℕ) : Type 0 where
+pub record IsFirstRow (Fact : List Phase → List Green → ℕ → Type 0) (net : Net) (lines : List (List Green))
+    (node row : ℕ) : Type 0 where
   pub least : IsFirstWithout (AllRows Fact net lines) (length net.node_names) node
   pub at : FromOne (IsFirstWithout (Fact (plan_at net node) (line_in lines node)) (length (line_in lines node))) row
 
@@ -65,7 +66,8 @@ abbrev pub IsWhy : Net → (ℕ → ℕ → ℕ) → Sheet → AuditWhy → Type
 IsWhy net arriving s (Span node row) = IsFirstRow IsGreenAt net s.lines node row
 IsWhy net arriving s (Next node row) =
     ((n : ℕ) → n < length net.node_names → AllRows IsGreenAt net s.lines n) × IsFirstRow FollowsAt net s.lines node row
-IsWhy net arriving s (Link link) = AreLawful net s.lines × IsFirstWithout (IsLinkShown net arriving s) (length net.link_names) link
+IsWhy net arriving s (Link link) =
+    AreLawful net s.lines × IsFirstWithout (IsLinkShown net arriving s) (length net.link_names) link
 IsWhy net arriving s Total =
     AreLawful net s.lines × ((l : ℕ) → l < length net.link_names → IsLinkShown net arriving s l)
     × (s.totals ≢ all_shown net arriving s.lines)

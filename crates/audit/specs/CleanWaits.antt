@@ -15,4 +15,5 @@ pub record ShowsFirst (intergreen : ℕ → ℕ) (until : ℕ) (rows : List Gree
 
 -- the line of each node shows the first `until` seconds with intergreens within those of its node
 abbrev pub AllShowFirst : Net → (ℕ → ℕ → ℕ) → ℕ → List (List Green) → Type 0
-AllShowFirst net intergreens until lines = (node : ℕ) → node < length net.node_names → ShowsFirst (intergreens node) until (line_in lines node)
+AllShowFirst net intergreens until lines =
+    (node : ℕ) → node < length net.node_names → ShowsFirst (intergreens node) until (line_in lines node)

@@ -30,7 +30,8 @@ pub record HasCome (net : Net) (parsed : List SheetRecord) (reader : SheetReader
   pub nodes : All (NamesNode net) parsed
   pub names : filter_map link_of parsed ≡ take (links_counted parsed) net.link_names
   pub lines : length reader.lines.items ≡ length net.node_names
-  pub shown : (k : ℕ) → k < length net.node_names → slice_index_or reader.lines.items k [] ≡ filter_map (green_of (node_name_at net k)) parsed
+  pub shown : (k : ℕ) → k < length net.node_names
+      → slice_index_or reader.lines.items k [] ≡ filter_map (green_of (node_name_at net k)) parsed
   pub counted : reader.links.items ≡ filter_map counts_of parsed
   pub once : filter_map sums_of parsed ≡ sums_if reader.totals
 
@@ -55,7 +56,8 @@ IsEntryFault net parsed fields number _ = ⊥
 
 -- the record with this number is at fault after what was read
 abbrev pub IsFaultAt : Net → SheetReader → List (List ℕ) → ℕ → SheetFault → Type 0
-IsFaultAt net reader fields number fault = (parsed : List SheetRecord) → HasCome net parsed reader → IsEntryFault net parsed fields number fault
+IsFaultAt net reader fields number fault =
+    (parsed : List SheetRecord) → HasCome net parsed reader → IsEntryFault net parsed fields number fault
 
 -- what all these records tell was read
 pub record HasRead (net : Net) (records : List (List (List ℕ))) (reader : SheetReader) : Type 0 where

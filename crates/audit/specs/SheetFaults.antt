@@ -17,7 +17,8 @@ IsExtra net parsed _ = ⊥
 -- after this, a green of no node, and totals of a link that is not the next one
 abbrev pub IsMisnamed : Net → List SheetRecord → SheetRecord → Type 0
 IsMisnamed net parsed (Shows node green) = ¬ Contains net.node_names node
-IsMisnamed net parsed (Counts link totals) = (links_counted parsed < length net.link_names) × (link ≢ link_name_at net (links_counted parsed))
+IsMisnamed net parsed (Counts link totals) =
+    (links_counted parsed < length net.link_names) × (link ≢ link_name_at net (links_counted parsed))
 IsMisnamed net parsed _ = ⊥
 
 -- a record that tells nothing; one that tells too much; and one with another name than it may have

@@ -19,7 +19,8 @@ pub data SheetRecord : Type 0 where
 -- the number below 2 ^ bits that a field is the text of
 unfoldable pub number_in : ℕ → List ℕ → Option ℕ
 number_in bits field =
-    if nat_lt (digits_value 10 field) (2 ^ bits) && bytes_eq field (decimal (digits_value 10 field)) then Some (digits_value 10 field) else None
+    if nat_lt (digits_value 10 field) (2 ^ bits) && bytes_eq field (decimal (digits_value 10 field))
+    then Some (digits_value 10 field) else None
 
 -- a green of a node's name, phase, begin and end
 unfoldable pub parse_green : List ℕ → List ℕ → List ℕ → List ℕ → Option SheetRecord
@@ -58,7 +59,8 @@ parse_fields kind node x y z w =
     then parse_green node x y z
     else (if bytes_eq kind (codes "link")
     then parse_counts x y z w
-    else (if bytes_eq kind (codes "total") then parse_sums x y z w else (if is_passed_over kind then Some Ignored else None)))
+    else (if bytes_eq kind (codes "total") then parse_sums x y z w
+    else (if is_passed_over kind then Some Ignored else None)))
 
 -- what a record, as the list of its fields, tells a sheet; none where it does not have seven fields, or these are of no record of a
 -- report

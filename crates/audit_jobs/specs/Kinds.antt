@@ -15,4 +15,5 @@ IsBadSheet net text fault = IsTextFault net text fault × (fault ≢ NoMemory)
 
 -- the kind of reports of a network, which say a sheet: greens and totals
 abbrev pub SheetText : Net → Kind
-SheetText net = record { Said = Sheet; Fault = SheetFault; is_text = IsSheetText net; is_fault = IsBadSheet net; code = sheet_code }
+SheetText net =
+    record { Said = Sheet; Fault = SheetFault; is_text = IsSheetText net; is_fault = IsBadSheet net; code = sheet_code }

@@ -16,7 +16,8 @@ use Rattle.audit_jobs.specs.Verdicts.{unclean_line}
 
 -- the verdict on a sheet that is clean, under whose greens the network is safe
 abbrev pub IsAcceptance : Net → (ℕ → ℕ → ℕ) → Sheet → List ℕ → Type 0
-IsAcceptance net arriving sheet bytes = IsClean net arriving sheet × IsSafe net (line_in sheet.lines) × (bytes ≡ accepted_line)
+IsAcceptance net arriving sheet bytes =
+    IsClean net arriving sheet × IsSafe net (line_in sheet.lines) × (bytes ≡ accepted_line)
 
 -- the queues under the greens of a sheet that is clean, under which the network is safe
 abbrev pub AreQueues : Net → (ℕ → ℕ → ℕ) → Sheet → List ℕ → Type 0

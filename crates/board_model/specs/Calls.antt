@@ -12,7 +12,12 @@ calls_at link calls = filter (λ call. call.link == link) calls
 
 -- the event of a node's call
 abbrev pub event_of : ℕ → Call → BoardEvent
-event_of node call = record { stamp = call.stamp; node = node; kind = if call.publishes then Publish call.forecast else Read call.version }
+event_of node call =
+    record {
+      stamp = call.stamp;
+      node = node;
+      kind = if call.publishes then Publish call.forecast else Read call.version;
+    }
 
 -- the events of a node
 abbrev pub events_by : ℕ → List BoardEvent → List BoardEvent

@@ -7,7 +7,8 @@ use Rattle.board_model.specs.Boards.{IsLegal, most_versions, published_by, versi
 
 -- the forecast that the event at this place publishes; the empty one where none does
 abbrev pub published_at : List BoardEvent → ℕ → List Row
-published_at events place = option_map_or (λ event. slice_index_or (published_by event.kind) 0 []) (slice_get events place) []
+published_at events place =
+    option_map_or (λ event. slice_index_or (published_by event.kind) 0 []) (slice_get events place) []
 
 -- a legal log, beside which stand how many forecasts were published, and the place of the newest
 pub record IsStored (events : List BoardEvent) (version place : ℕ) : Type 0 where

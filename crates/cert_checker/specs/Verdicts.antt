@@ -26,7 +26,8 @@ IsClaimedOtherwise p NoPlan said is = ⊥
 
 -- the entry with this number, from 1, is the first of which this does not hold
 abbrev pub IsFirstNot : (Entry → Type 0) → List Entry → ℕ → Type 0
-IsFirstNot P entries n = (1 ≤ n) × (n - 1 < length entries) × All P (take (n - 1) entries) × ¬ P (entry_at entries (n - 1))
+IsFirstNot P entries n =
+    (1 ≤ n) × (n - 1 < length entries) × All P (take (n - 1) entries) × ¬ P (entry_at entries (n - 1))
 
 -- phase k is the least at which an entry is not closed
 abbrev pub IsOpenAt : Claim → Entry → ℕ → Type 0

@@ -16,7 +16,12 @@ use Rattle.certificate_form.specs.declared.reading.Lines.{Lines}
 
 -- what the lines say, without where it lies in memory
 abbrev pub claim_of_lines : Lines → Claim
-claim_of_lines l = record { problem = record { plan = l.form.phases.items; head = l.form.head; lists = l.form.lists.items }; entries = l.entries.items; answer = l.answer }
+claim_of_lines l =
+    record {
+      problem = record { plan = l.form.phases.items; head = l.form.head; lists = l.form.lists.items };
+      entries = l.entries.items;
+      answer = l.answer;
+    }
 
 -- the fault is out of memory
 abbrev pub IsOutOfMemory : CertText → Type 0
@@ -45,7 +50,10 @@ pub record IsFormText (bytes : List ℕ) (free : Bool) (c : Claim) : Type 0 wher
 -- form of its place; or else the fault of the phases; or else that of the instance; or else that of the certificate
 abbrev pub IsTextFault : List ℕ → CertText → Type 0
 IsTextFault bytes (Line n) = IsFirstFault n bytes × ((free : Bool) (c : Claim) → ¬ IsFormText bytes free c)
-IsTextFault bytes (Plan fault) = (free : Bool) × (c : Claim) × IsFormText bytes free c × IsPlanFaultWhere free c.problem.plan fault
-IsTextFault bytes (Instance fault) = (free : Bool) × (c : Claim) × IsFormText bytes free c × IsPlanWhere free c.problem.plan × IsInstanceFault c.problem fault
+IsTextFault bytes (Plan fault) =
+    (free : Bool) × (c : Claim) × IsFormText bytes free c × IsPlanFaultWhere free c.problem.plan fault
+IsTextFault bytes (Instance fault) =
+    (free : Bool) × (c : Claim) × IsFormText bytes free c × IsPlanWhere free c.problem.plan
+    × IsInstanceFault c.problem fault
 IsTextFault bytes (Cert fault) = (c : Claim) × IsCertificateText bytes c × IsInstance c.problem × IsCertFault c fault
 IsTextFault bytes NoMemory = Unit {0}

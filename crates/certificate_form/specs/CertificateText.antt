@@ -18,7 +18,8 @@ answer_line NoPlan = line (codes "answer none" ∷ [])
 
 -- the counts of this many phases, the head and the delay
 abbrev pub entry_line : ℕ → Entry → List ℕ
-entry_line phases e = line (codes "entry" ∷ map decimal (take phases e.counts ++ e.phase ∷ e.since ∷ e.at ∷ e.delay ∷ []))
+entry_line phases e =
+    line (codes "entry" ∷ map decimal (take phases e.counts ++ e.phase ∷ e.since ∷ e.at ∷ e.delay ∷ []))
 
 -- the line of an entry up to the phase, and what follows
 abbrev pub entry_front : ℕ → Entry → List ℕ

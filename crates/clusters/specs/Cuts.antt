@@ -32,12 +32,14 @@ pub record IsRun (gap rate most : ℕ) (series run : List ℕ) : Type 0 where
   pub some : 1 ≤ length run
   pub near : (k : ℕ) → k + 1 < length run → slice_index run (k + 1) ≤ slice_index run k + gap + 1
   pub span : last_of run + 1 ≤ first_of run + most
-  pub flows : (k : ℕ) → k + 1 < length run → rate * peak series (take (k + 1) run) ≤ 1000 * slice_index series (slice_index run (k + 1))
+  pub flows : (k : ℕ) → k + 1 < length run
+      → rate * peak series (take (k + 1) run) ≤ 1000 * slice_index series (slice_index run (k + 1))
 
 -- a second after a run could not have joined it: more than `gap` empty seconds lie before it, the span would pass `most`, or too
 -- little comes in it
 abbrev pub CannotJoin : ℕ → ℕ → ℕ → List ℕ → List ℕ → ℕ → Type 0
-CannotJoin gap rate most series run x = (last_of run + gap + 1 < x) ⊎ (first_of run + most < x + 1) ⊎ FallsBelow rate series run x
+CannotJoin gap rate most series run x =
+    (last_of run + gap + 1 < x) ⊎ (first_of run + most < x + 1) ⊎ FallsBelow rate series run x
 
 -- the run with this number
 abbrev pub run_at : List (List ℕ) → ℕ → List ℕ

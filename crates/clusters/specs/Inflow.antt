@@ -32,14 +32,17 @@ heard_forecast heard link = unwrap_or (option_map (λ h. h.forecast) (find (λ h
 -- the link; and from then on the forecast.
 abbrev pub inflow_at : ℕ → ℕ → ℕ → List ℕ → List Row → ℕ → ℕ
 inflow_at now travel queue coming forecast x =
-    (if x == now then queue else 0) + (if nat_lt x (now + travel) then slice_index coming (x - now) else amount_at forecast x)
+    (if x == now then queue else 0)
+    + (if nat_lt x (now + travel) then slice_index coming (x - now) else amount_at forecast x)
 
 -- what reaches the end of a link in each of `look` seconds from `now` on
 unfoldable pub inflow : ℕ → ℕ → ℕ → ℕ → List ℕ → List Row → List ℕ
-inflow now look travel queue coming forecast = map (inflow_at now travel queue coming forecast) (range_with_len now look)
+inflow now look travel queue coming forecast =
+    map (inflow_at now travel queue coming forecast) (range_with_len now look)
 
 -- what leaves at the end of a link in each second that the planning looks ahead, if its phase is green throughout
 unfoldable pub leaving : Net → Sensed → List Heard → ℕ → List ℕ
 leaving net sensed heard l =
     smoothed (link_at net l).sat
-    (inflow sensed.now net.run.look (link_at net l).travel (sense_of sensed l).queue (sense_of sensed l).coming (heard_forecast heard l))
+    (inflow sensed.now net.run.look (link_at net l).travel (sense_of sensed l).queue (sense_of sensed l).coming
+    (heard_forecast heard l))

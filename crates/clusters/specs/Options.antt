@@ -17,7 +17,8 @@ use Rattle.clusters.specs.Platoons.{ArePlatoonsBy, most_of, platoons_at, streams
 -- start, the cluster ends in it.
 abbrev pub span_in_green : ℕ → ℕ → Head → ℕ → ℕ
 span_in_green greatest most head arr =
-    if nat_lt (max arr head.at) (head.since + greatest) then min most (head.since + greatest - max arr head.at) else most
+    if nat_lt (max arr head.at) (head.since + greatest) then min most (head.since + greatest - max arr head.at)
+    else most
 
 -- how many seconds a run of phase k may span that begins in second x from now: with `split` the first run of the head's phase is
 -- to end in the standing green
@@ -31,15 +32,21 @@ span_of net node head now k series x =
 -- many seconds, up to four times itself and never above 20.
 abbrev pub amount_load : Option ℕ → ℕ → ℕ → ℕ → ℕ
 amount_load None weight stood amount = weight * amount
-amount_load (Some age) weight stood amount = min (greatest_weight * amount) (amount * weight * (age + min stood (3 * age)) / age)
+amount_load (Some age) weight stood amount =
+    min (greatest_weight * amount) (amount * weight * (age + min stood (3 * age)) / age)
 
 -- what a part counts
 abbrev pub aged_load_of : Option ℕ → Net → Sensed → Part → ℕ
-aged_load_of age net sensed part = sum_by (amount_load age (link_at net part.link).weight (sense_of sensed part.link).stood) part.amounts
+aged_load_of age net sensed part =
+    sum_by (amount_load age (link_at net part.link).weight (sense_of sensed part.link).stood) part.amounts
 
 -- the platoon with a load that counts this many times, and at most 20 times its size
 abbrev pub with_held_load : ℕ → Platoon → Platoon
-with_held_load hold p = record { cluster = record p.cluster { load = min (greatest_weight * p.cluster.size) (hold * p.cluster.load) }; parts = p.parts }
+with_held_load hold p =
+    record {
+      cluster = record p.cluster { load = min (greatest_weight * p.cluster.size) (hold * p.cluster.load) };
+      parts = p.parts;
+    }
 
 -- these platoons, of which the first counts this many times where it has arrived by this second; without a hold as they are
 abbrev pub first_with_hold : Option ℕ → ℕ → List Platoon → List Platoon
@@ -57,15 +64,20 @@ abbrev pub rate_of : Net → ℕ
 rate_of net = unwrap_or net.run.rate 0
 
 -- the platoons of phase k that a node with this head expects
-pub record AreExpectedIn (net : Net) (node : ℕ) (head : Head) (sensed : Sensed) (k : ℕ) (streams : List Part) (platoons : List Platoon) : Type 0 where
+pub record AreExpectedIn (net : Net) (node : ℕ) (head : Head) (sensed : Sensed) (k : ℕ) (streams : List Part)
+    (platoons : List Platoon) : Type 0 where
   pub plain : List Platoon
-  pub are : ArePlatoonsBy (aged_load_of net.run.age net sensed) net.run.gap (rate_of net) (span_of net node head sensed.now k (together streams net.run.look)) sensed.now net.run.look streams plain
+  pub are : ArePlatoonsBy (aged_load_of net.run.age net sensed) net.run.gap (rate_of net)
+      (span_of net node head sensed.now k (together streams net.run.look)) sensed.now net.run.look streams plain
   pub held : platoons ≡ with_hold net head k plain
 
 -- the platoons that a node with this head expects, phase by phase
-pub record AreExpected (net : Net) (node : ℕ) (head : Head) (sensed : Sensed) (heard : List Heard) (lists : List (List Platoon)) : Type 0 where
+pub record AreExpected (net : Net) (node : ℕ) (head : Head) (sensed : Sensed) (heard : List Heard)
+    (lists : List (List Platoon)) : Type 0 where
   pub count : length lists ≡ length (plan_at net node)
-  pub each : (k : ℕ) → k < length lists → AreExpectedIn net node head sensed k (streams_of net sensed heard (phase_links_at net node k)) (platoons_at lists k)
+  pub each : (k : ℕ) → k < length lists
+      → AreExpectedIn net node head sensed k (streams_of net sensed heard (phase_links_at net node k))
+      (platoons_at lists k)
 
 -- the network asks for none of `split`, `age`, `hold` and `rate`
 pub record AsksNothing (net : Net) : Type 0 where

@@ -47,7 +47,8 @@ platoon_of load now streams run = platoon_within load now streams (first_of run)
 -- of seconds, with at most `gap` empty ones between neighbours of a run, at least `rate` thousandths of the greatest amount before it
 -- in each later second, and at most `span x` seconds in one that begins in second x from `now`; each run makes a platoon. `load part`
 -- is what a part of a platoon counts in its load.
-pub record ArePlatoonsBy (load : Part → ℕ) (gap rate : ℕ) (span : ℕ → ℕ) (now look : ℕ) (streams : List Part) (platoons : List Platoon) : Type 0 where
+pub record ArePlatoonsBy (load : Part → ℕ) (gap rate : ℕ) (span : ℕ → ℕ) (now look : ℕ) (streams : List Part)
+    (platoons : List Platoon) : Type 0 where
   pub runs : List (List ℕ)
   pub cut : IsCutBy gap rate span (together streams look) runs
   pub each : platoons ≡ map (platoon_of load now streams) runs
@@ -65,7 +66,9 @@ abbrev pub most_of : Net → ℕ → ℕ → ℕ
 most_of net node k = (phase_at (plan_at net node) k).greatest - (phase_at (plan_at net node) k).loss
 
 -- the platoons of a node, phase by phase, by what it senses and what it has heard
-pub record ArePlatoonsOf (net : Net) (node : ℕ) (sensed : Sensed) (heard : List Heard) (lists : List (List Platoon)) : Type 0 where
+pub record ArePlatoonsOf (net : Net) (node : ℕ) (sensed : Sensed) (heard : List Heard)
+    (lists : List (List Platoon)) : Type 0 where
   pub count : length lists ≡ length (plan_at net node)
   pub each : (k : ℕ) → k < length lists
-      → ArePlatoons (load_of net) net.run.gap (most_of net node k) sensed.now net.run.look (streams_of net sensed heard (phase_links_at net node k)) (platoons_at lists k)
+      → ArePlatoons (load_of net) net.run.gap (most_of net node k) sensed.now net.run.look
+      (streams_of net sensed heard (phase_links_at net node k)) (platoons_at lists k)

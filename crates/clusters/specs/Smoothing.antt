@@ -14,4 +14,5 @@ left_by sat amounts n = least_to (λ m. sum (take m amounts) + sat * (n - m)) n
 
 -- how much leaves in each second
 unfoldable pub smoothed : ℕ → List ℕ → List ℕ
-smoothed sat amounts = map (λ k. left_by sat amounts (k + 1) - left_by sat amounts k) (range_with_len 0 (length amounts))
+smoothed sat amounts =
+    map (λ k. left_by sat amounts (k + 1) - left_by sat amounts k) (range_with_len 0 (length amounts))

@@ -49,7 +49,8 @@ AreSpans first most = (x : ℕ) → (1 ≤ span_at first most x) × (span_at fir
 -- how many seconds a run may span that begins in second x, where the first run, if a head is given, is to end in the green of that head
 abbrev pub span_with : Option Head → ℕ → ℕ → ℕ → List ℕ → ℕ → ℕ
 span_with None greatest most now series x = most
-span_with (Some head) greatest most now series x = if x == first_of (filled series) then span_in_green greatest most head (now + x) else most
+span_with (Some head) greatest most now series x =
+    if x == first_of (filled series) then span_in_green greatest most head (now + x) else most
 
 -- an age and a hold of a network
 abbrev pub IsAge : Option ℕ → Type 0
@@ -62,7 +63,8 @@ IsHold hold = IfSome hold (λ h. (1 ≤ h) × (h ≤ 20))
 abbrev pub ArePlatoonsAsked : Option ℕ → ℕ → Option Head → Net → ℕ → ℕ → Sensed → List Heard → List Platoon → Type 0
 ArePlatoonsAsked age rate split net node phase sensed heard =
     ArePlatoonsBy (aged_load_of age net sensed) net.run.gap rate
-    (span_with split (phase_at (plan_at net node) phase).greatest (most_of net node phase) sensed.now (together (streams_of net sensed heard (phase_links_at net node phase)) net.run.look))
+    (span_with split (phase_at (plan_at net node) phase).greatest (most_of net node phase) sensed.now
+    (together (streams_of net sensed heard (phase_links_at net node phase)) net.run.look))
     sensed.now net.run.look (streams_of net sensed heard (phase_links_at net node phase))
 
 -- streams of links of the network
@@ -78,6 +80,7 @@ pub record AreStreams (look : ℕ) (streams : List Part) : Type 0 where
 -- what is seen of `look` seconds: of each as long as it takes to travel the link, the queue counting in the first; and then nothing
 pub record IsSeen (look travel queue : ℕ) (coming : List ℕ) (amounts : List ℕ) : Type 0 where
   pub count : length amounts ≡ look
-  pub near : (k : ℕ) → k < look → k < travel → slice_index amounts k ≡ (if k == 0 then queue else 0) + slice_index coming k
+  pub near : (k : ℕ) → k < look → k < travel
+      → slice_index amounts k ≡ (if k == 0 then queue else 0) + slice_index coming k
   pub far : (k : ℕ) → travel ≤ k → slice_index amounts k ≡ 0
   pub total : sum amounts ≤ queue + sum coming

@@ -15,7 +15,8 @@ pub record IsFirstAmong (lists : List (List Platoon)) (counts : List ℕ) (i : �
   pub phase : first.1 < i
   pub waits : slice_index counts first.1 < length (platoons_at lists first.1)
   pub arr : first.0 ≡ arrival lists first.1 (slice_index counts first.1)
-  pub comes : (k : ℕ) → k < i → slice_index counts k < length (platoons_at lists k) → ComesFirst first.0 first.1 (arrival lists k (slice_index counts k)) k
+  pub comes : (k : ℕ) → k < i → slice_index counts k < length (platoons_at lists k)
+      → ComesFirst first.0 first.1 (arrival lists k (slice_index counts k)) k
 
 -- of the first i phases, the platoon that comes first of those not taken; none where none of them has one left
 abbrev pub IsFirstOf : List (List Platoon) → List ℕ → ℕ → Option (ℕ × ℕ) → Type 0

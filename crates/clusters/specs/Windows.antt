@@ -21,7 +21,8 @@ arrival lists k place = slice_index (arrivals (platoons_at lists k)) place
 pub record IsFront (lists : List (List Platoon)) (counts : List ℕ) : Type 0 where
   pub phases : length counts ≡ length lists
   pub there : (k : ℕ) → slice_index counts k ≤ length (platoons_at lists k)
-  pub before : (j k taken waiting : ℕ) → taken < slice_index counts j → slice_index counts k ≤ waiting → waiting < length (platoons_at lists k)
+  pub before : (j k taken waiting : ℕ) → taken < slice_index counts j → slice_index counts k ≤ waiting
+      → waiting < length (platoons_at lists k)
       → ComesFirst (arrival lists j taken) j (arrival lists k waiting) k
 
 -- these counts of clusters can be planned at once: at most 40 in all, and in at most 50,000 orders

@@ -26,7 +26,8 @@ IsMadeOf call (made.Rejected text) said = call.rejects said text.items × call.a
 
 -- what a command made of its texts, in which its words miss nothing, or why it made nothing
 abbrev pub Makes : Meaning → ShelfState → ShelfState → Result Made Refusal → Type 0
-Makes call old new (Ok made) = (new ≡ old) × Read call old.files (λ said. IsMadeOf call made said × MissesNothing call said)
+Makes call old new (Ok made) =
+    (new ≡ old) × Read call old.files (λ said. IsMadeOf call made said × MissesNothing call said)
 Makes call old new (Err why) = Explains call old new why
 
 -- the bytes that were made, and the status that goes with them
@@ -52,5 +53,7 @@ pub record IsBroken (bytes : List ℕ) (out out' err err' : SinkState) (status :
 
 -- how what was made, or refused, is answered
 abbrev pub Ends : Result Made Refusal → SinkState → SinkState → SinkState → SinkState → Status → Type 0
-Ends (Ok made) out out' err err' status = IsWritten (bytes_of made) (made_status made) out out' err err' status ⊎ IsBroken (bytes_of made) out out' err err' status
+Ends (Ok made) out out' err err' status =
+    IsWritten (bytes_of made) (made_status made) out out' err err' status
+    ⊎ IsBroken (bytes_of made) out out' err err' status
 Ends (Err why) out out' err err' status = (out' ≡ out) × Refuses why err err' status

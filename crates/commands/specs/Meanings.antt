@@ -18,7 +18,8 @@ MissesNothing call said = (what : Named) → ¬ call.misses said what
 
 -- a command that writes this of its texts, and neither judges nor names anything in them
 abbrev pub writer : (texts : Texts) → (AllSaid texts → List ℕ → Type 0) → Meaning
-writer texts writes = record { texts = texts; writes = writes; against = λ said. ⊥; rejects = λ said bytes. ⊥; misses = λ said what. ⊥ }
+writer texts writes =
+    record { texts = texts; writes = writes; against = λ said. ⊥; rejects = λ said bytes. ⊥; misses = λ said what. ⊥ }
 
 -- the line of a verdict that is not against the texts of its command
 abbrev pub accepted_line : List ℕ

@@ -36,18 +36,22 @@ IsBadInput call files _ = ⊥
 -- How a command ends: the table of answers. `old` is what the shelf and the sinks were, `new` what they are now.
 pub record Outcome (call : Meaning) (old new : Outside) (status : Status) : Type 0 where
   -- the work is done, and its text was written
-  pub done : status ≡ Done → Read call old.shelf.files (λ said. (bytes : List ℕ) × call.writes said bytes × Gains old.out new.out bytes)
+  pub done : status ≡ Done
+      → Read call old.shelf.files (λ said. (bytes : List ℕ) × call.writes said bytes × Gains old.out new.out bytes)
   -- the verdict goes against the texts, and was written
-  pub rejected : status ≡ Rejected → Read call old.shelf.files (λ said. (bytes : List ℕ) × call.rejects said bytes × Gains old.out new.out bytes)
+  pub rejected : status ≡ Rejected
+      → Read call old.shelf.files (λ said. (bytes : List ℕ) × call.rejects said bytes × Gains old.out new.out bytes)
   -- the words are a command
   pub usage : status ≢ Usage
   -- a text or a word is refused, and the line says which and why
   pub bad_input : status ≡ BadInput → (why : Refusal) × IsBadInput call old.shelf.files why × Says why old.err new.err
   -- a text could not be read, and the line says which
-  pub read_fault : status ≡ ReadFault → (place : TextPlace) × IsUnread call old.shelf new.shelf place × Says (refusal.Unread place) old.err new.err
+  pub read_fault : status ≡ ReadFault
+      → (place : TextPlace) × IsUnread call old.shelf new.shelf place × Says (refusal.Unread place) old.err new.err
   -- what was to be written was not written whole
   pub write_fault : status ≡ WriteFault → Says refusal.Unwritten old.err new.err
-      × Read call old.shelf.files (λ said. (bytes : List ℕ) × (call.writes said bytes ⊎ call.rejects said bytes) × Breaks old.out new.out bytes)
+      × Read call old.shelf.files
+      (λ said. (bytes : List ℕ) × (call.writes said bytes ⊎ call.rejects said bytes) × Breaks old.out new.out bytes)
   -- memory ran out
   pub no_memory : status ≡ NoMemory → Says refusal.NoMemory old.err new.err
   -- nothing else changes the shelf, out or err, and nothing the shelf's files
@@ -56,13 +60,17 @@ pub record Outcome (call : Meaning) (old new : Outside) (status : Status) : Type
   pub out : status ≢ Done → status ≢ Rejected → status ≢ WriteFault → new.out ≡ old.out
   pub err : (status ≡ Done) ⊎ (status ≡ Rejected) → new.err ≡ old.err
   -- a text that the shelf tells, and that is read as nothing of its kind, is refused
-  pub refused : (place : TextPlace) → TellsBad old.shelf.files call.texts place → new.shelf ≡ old.shelf → (status ≡ BadInput) ⊎ (status ≡ NoMemory)
+  pub refused : (place : TextPlace) → TellsBad old.shelf.files call.texts place → new.shelf ≡ old.shelf
+      → (status ≡ BadInput) ⊎ (status ≡ NoMemory)
   -- and so is a word that names what is not in the texts
-  pub missing : (said : AllSaid call.texts) → Tells old.shelf.files call.texts said → (what : Named) → call.misses said what
+  pub missing : (said : AllSaid call.texts) → Tells old.shelf.files call.texts said → (what : Named)
+      → call.misses said what
       → new.shelf ≡ old.shelf → (status ≡ BadInput) ⊎ (status ≡ NoMemory)
   -- where nothing is wrong and nothing failed, the work is done
-  pub complete : (said : AllSaid call.texts) → Tells old.shelf.files call.texts said → MissesNothing call said → ¬ call.against said
+  pub complete : (said : AllSaid call.texts) → Tells old.shelf.files call.texts said → MissesNothing call said
+      → ¬ call.against said
       → new.shelf ≡ old.shelf → ¬ Rose old.out.faults new.out.faults → (status ≡ Done) ⊎ (status ≡ NoMemory)
   -- or the verdict goes against the texts
-  pub against : (said : AllSaid call.texts) → Tells old.shelf.files call.texts said → MissesNothing call said → call.against said
+  pub against : (said : AllSaid call.texts) → Tells old.shelf.files call.texts said → MissesNothing call said
+      → call.against said
       → new.shelf ≡ old.shelf → ¬ Rose old.out.faults new.out.faults → (status ≡ Rejected) ⊎ (status ≡ NoMemory)

@@ -76,4 +76,6 @@ TakesMemory _ = ⊥
 
 -- a refusal was answered with its status and its line, or with `NoMemory`, where there is no memory for the line
 abbrev pub Refuses : Refusal → SinkState → SinkState → Status → Type 0
-Refuses why err err' status = ((status ≡ status_of why) × Says why err err') ⊎ (TakesMemory why × (status ≡ NoMemory) × Says refusal.NoMemory err err')
+Refuses why err err' status =
+    ((status ≡ status_of why) × Says why err err')
+    ⊎ (TakesMemory why × (status ≡ NoMemory) × Says refusal.NoMemory err err')

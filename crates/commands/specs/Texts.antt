@@ -68,17 +68,25 @@ AreIn files (Next kind name rest) said = IsIn files name kind said.0 × AreIn fi
 abbrev pub At : (Kind → List ℕ → Type 0) → Files → Texts → TextPlace → Type 0
 At here files NoMore place = ⊥
 At here files (Next kind name rest) First = here kind name
-At here files (Next kind name rest) Second = (said : kind.Said) × IsIn files name kind said × At here files (rest said) First
-At here files (Next kind name rest) Third = (said : kind.Said) × IsIn files name kind said × At here files (rest said) Second
+At here files (Next kind name rest) Second =
+    (said : kind.Said) × IsIn files name kind said × At here files (rest said) First
+At here files (Next kind name rest) Third =
+    (said : kind.Said) × IsIn files name kind said × At here files (rest said) Second
 
 -- the shelf tells a text for each file, and these are read as this
 abbrev pub Tells : Files → (texts : Texts) → AllSaid texts → Type 0
 Tells files NoMore said = Unit {0}
-Tells files (Next kind name rest) said = ((text : List ℕ) × (text_of files name ≡ Some text) × Reads kind text said.0) × Tells files (rest said.0) said.1
+Tells files (Next kind name rest) said =
+    ((text : List ℕ) × (text_of files name ≡ Some text) × Reads kind text said.0) × Tells files (rest said.0) said.1
 
 -- the shelf tells the texts up to this place: the one there is read as nothing of its kind, and all before it are read
 abbrev pub TellsBad : Files → Texts → TextPlace → Type 0
 TellsBad files NoMore place = ⊥
-TellsBad files (Next kind name rest) First = (text : List ℕ) × (text_of files name ≡ Some text) × ((said : kind.Said) → ¬ Reads kind text said)
-TellsBad files (Next kind name rest) Second = (text : List ℕ) × (text_of files name ≡ Some text) × ((said : kind.Said) × Reads kind text said × TellsBad files (rest said) First)
-TellsBad files (Next kind name rest) Third = (text : List ℕ) × (text_of files name ≡ Some text) × ((said : kind.Said) × Reads kind text said × TellsBad files (rest said) Second)
+TellsBad files (Next kind name rest) First =
+    (text : List ℕ) × (text_of files name ≡ Some text) × ((said : kind.Said) → ¬ Reads kind text said)
+TellsBad files (Next kind name rest) Second =
+    (text : List ℕ) × (text_of files name ≡ Some text)
+    × ((said : kind.Said) × Reads kind text said × TellsBad files (rest said) First)
+TellsBad files (Next kind name rest) Third =
+    (text : List ℕ) × (text_of files name ≡ Some text)
+    × ((said : kind.Said) × Reads kind text said × TellsBad files (rest said) Second)

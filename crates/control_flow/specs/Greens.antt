@@ -69,8 +69,11 @@ covers_yellow row yellow second = nat_le row.to second && nat_lt second (row.to 
 -- between the end of a row and the begin of each later one lie at least the yellow and all-red of its phase, so that at most
 -- one row covers a second
 pub record AreApart (plan : List Phase) (rows : List Green) : Type 0 where
-  pub apart : (i j : ℕ) → i < j → j < length rows → (row_at rows i).to + (phase_at plan (row_at rows i).phase).yellow + (phase_at plan (row_at rows i).phase).clear ≤ (row_at rows j).from
-  pub one : (i j second : ℕ) → i < length rows → j < length rows → IsTrue (covers (row_at rows i) second) → IsTrue (covers (row_at rows j) second) → i ≡ j
+  pub apart : (i j : ℕ) → i < j → j < length rows
+      → (row_at rows i).to + (phase_at plan (row_at rows i).phase).yellow + (phase_at plan (row_at rows i).phase).clear
+      ≤ (row_at rows j).from
+  pub one : (i j second : ℕ) → i < length rows → j < length rows → IsTrue (covers (row_at rows i) second)
+      → IsTrue (covers (row_at rows j) second) → i ≡ j
 
 -- the first row that covers a second
 abbrev pub green_at : List Green → ℕ → Option Green
@@ -86,11 +89,14 @@ is_green rows k second = list_any (λ row. (row.phase == k) && covers row second
 
 -- whether the yellow after a row of the phase covers a second
 abbrev pub is_yellow : List Phase → List Green → ℕ → ℕ → Bool
-is_yellow plan rows k second = list_any (λ row. (row.phase == k) && covers_yellow row (phase_at plan k).yellow second) rows
+is_yellow plan rows k second =
+    list_any (λ row. (row.phase == k) && covers_yellow row (phase_at plan k).yellow second) rows
 
 -- what phase k shows at a second
 abbrev pub colour_at : List Phase → List Green → ℕ → ℕ → Colour
-colour_at plan rows k second = if is_green rows k second then colours.Green else if is_yellow plan rows k second then colours.Yellow else colours.Red
+colour_at plan rows k second =
+    if is_green rows k second then colours.Green else if is_yellow plan rows k second then colours.Yellow
+    else colours.Red
 
 -- the first row that ends after a second
 abbrev pub row_after : List Green → ℕ → Option Green
@@ -99,7 +105,13 @@ row_after rows now = find (λ row. nat_lt now row.to) rows
 -- the signal's state at a second, by the row that is green then, or else will be next
 abbrev pub head_in : List Phase → ℕ → Green → Head
 head_in plan now row =
-    if nat_le row.from now then record { phase = row.phase; since = row.from; at = now; fresh = nat_lt now (row.from + (phase_at plan row.phase).loss) }
+    if nat_le row.from now
+    then record {
+      phase = row.phase;
+      since = row.from;
+      at = now;
+      fresh = nat_lt now (row.from + (phase_at plan row.phase).loss);
+    }
     else record { phase = row.phase; since = row.from; at = row.from; fresh = true }
 
 -- the signal's state at a second, where some row ends after it

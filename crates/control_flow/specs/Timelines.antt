@@ -41,7 +41,8 @@ HasGreens rows (k ∷ ks) (s ∷ ss) = IsGreenOf rows k s × HasGreens rows ks s
 abbrev pub shortest_greens : List Phase → ℕ → List ℕ → List Green
 shortest_greens plan from [] = []
 shortest_greens plan from (k ∷ ks) =
-    record { phase = k; from = from; to = from + (phase_at plan k).least } ∷ shortest_greens plan (from + passing (phase_at plan k)) ks
+    record { phase = k; from = from; to = from + (phase_at plan k).least }
+    ∷ shortest_greens plan (from + passing (phase_at plan k)) ks
 
 -- when the next green can begin after greens of these phases, each of its least length, the first from this second
 abbrev pub begin_after : List Phase → ℕ → List ℕ → ℕ
@@ -50,12 +51,15 @@ begin_after plan from (k ∷ ks) = begin_after plan (from + passing (phase_at pl
 
 -- when the green of a head ends for a wanted green of phase j that begins at b: as late as it may
 abbrev pub last_end : List Phase → Head → ℕ → ℕ → ℕ
-last_end plan head j b = max (earliest_end plan head) (min (head.since + (phase_at plan head.phase).greatest) (b - switch_time plan head.phase j))
+last_end plan head j b =
+    max (earliest_end plan head)
+    (min (head.since + (phase_at plan head.phase).greatest) (b - switch_time plan head.phase j))
 
 -- the green of a head up to this second, and after it greens of these phases, each of its least length
 abbrev pub left_for : List Phase → Head → ℕ → List ℕ → List Green
 left_for plan head to ks =
-    record { phase = head.phase; from = head.since; to = to } ∷ shortest_greens plan (to + (phase_at plan head.phase).yellow + (phase_at plan head.phase).clear) ks
+    record { phase = head.phase; from = head.since; to = to }
+    ∷ shortest_greens plan (to + (phase_at plan head.phase).yellow + (phase_at plan head.phase).clear) ks
 
 -- the green after one of phase s up to this second: of the first phase up the ring at which it stops by this test, or of the one
 -- after s where it stops at no other, as early as it may be, of its least length
@@ -70,7 +74,8 @@ abbrev pub turning : List Phase → (ℕ → Bool) → ℕ → ℕ → ℕ → �
 turning plan stops zero until s to = []
 turning plan stops (suc most) until s to =
     if nat_lt until to then []
-    else green_after plan stops s to ∷ turning plan stops most until (green_after plan stops s to).phase (green_after plan stops s to).to
+    else green_after plan stops s to
+    ∷ turning plan stops most until (green_after plan stops s to).phase (green_after plan stops s to).to
 
 -- the green of a head up to this second, and then the ring turns until a green ends after `until`
 abbrev pub turned : List Phase → (ℕ → Bool) → Head → ℕ → ℕ → List Green
@@ -89,11 +94,14 @@ stops_at plan calls k = is_unmarked_at plan k || calls_for calls k
 -- as it may, and the ring passes to the new one; the last green is held as long as it may, and then the ring turns, stopping
 -- at unmarked phases, and in a free ring at each
 abbrev pub line_of : List Phase → Head → List ℕ → List Served → ℕ → List Green
-line_of plan head [] served until = turned plan (is_unmarked_at plan) head (head.since + (phase_at plan head.phase).greatest) until
-line_of plan head (k ∷ ks) [] until = turned plan (is_unmarked_at plan) head (head.since + (phase_at plan head.phase).greatest) until
+line_of plan head [] served until =
+    turned plan (is_unmarked_at plan) head (head.since + (phase_at plan head.phase).greatest) until
+line_of plan head (k ∷ ks) [] until =
+    turned plan (is_unmarked_at plan) head (head.since + (phase_at plan head.phase).greatest) until
 line_of plan head (k ∷ ks) (s ∷ ss) until =
     if s.kept then line_of plan (head_after k s) ks ss until
-    else left_for plan head (last_end plan head k s.green) (passed_numbers plan head.phase k) ++ line_of plan (head_after k s) ks ss until
+    else left_for plan head (last_end plan head k s.green) (passed_numbers plan head.phase k)
+    ++ line_of plan (head_after k s) ks ss until
 
 -- the timeline from a head with no plan: its green ends as early as it may, and then the ring turns, with a green of least length
 -- for each unmarked phase, in a free ring for each, until a green ends after second `until`

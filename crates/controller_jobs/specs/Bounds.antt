@@ -21,11 +21,13 @@ bound_field (Err ShortGreen) = codes "short"
 
 -- the record of the bounds of a phase: the node by its name, the phase, and the bound where the nodes plan and that under actuated control
 abbrev pub bound_record : Net → PhaseBounds → List (List ℕ)
-bound_record net bounds = node_name_at net bounds.node ∷ decimal bounds.phase ∷ bound_field bounds.planned ∷ bound_field bounds.actuated ∷ []
+bound_record net bounds =
+    node_name_at net bounds.node ∷ decimal bounds.phase ∷ bound_field bounds.planned ∷ bound_field bounds.actuated ∷ []
 
 -- the records of the bounds of a node's phases
 abbrev pub bound_records : Net → ℕ → List (List (List ℕ))
-bound_records net node = map (λ k. bound_record net (phase_bounds net node k)) (range_with_len 0 (length (plan_at net node)))
+bound_records net node =
+    map (λ k. bound_record net (phase_bounds net node k)) (range_with_len 0 (length (plan_at net node)))
 
 -- the header of the text of bounds
 abbrev pub header : List (List ℕ)
@@ -45,11 +47,14 @@ red_field None = codes "marked"
 -- the record of the bounds of a phase, with two fields more: the bound under a fixed plan, and how long its reds are under that
 abbrev pub fixed_record : Net → PhaseBounds → Result ℕ NoBound → Option ℕ → List (List ℕ)
 fixed_record net bounds fixed red =
-    node_name_at net bounds.node ∷ decimal bounds.phase ∷ bound_field bounds.planned ∷ bound_field bounds.actuated ∷ bound_field fixed ∷ red_field red ∷ []
+    node_name_at net bounds.node ∷ decimal bounds.phase ∷ bound_field bounds.planned ∷ bound_field bounds.actuated
+    ∷ bound_field fixed ∷ red_field red ∷ []
 
 -- the records of the bounds of a node's phases, with those under a fixed plan
 abbrev pub fixed_records : Net → List FixedRow → ℕ → List (List (List ℕ))
-fixed_records net rows node = map (λ k. fixed_record net (phase_bounds net node k) (fixed_bounds net rows node k) (fixed_red net rows node k)) (range_with_len 0 (length (plan_at net node)))
+fixed_records net rows node =
+    map (λ k. fixed_record net (phase_bounds net node k) (fixed_bounds net rows node k) (fixed_red net rows node k))
+    (range_with_len 0 (length (plan_at net node)))
 
 -- the header of the text of bounds with a fixed plan
 abbrev pub fixed_header : List (List ℕ)
@@ -57,4 +62,5 @@ fixed_header = codes "node" ∷ codes "phase" ∷ codes "planned" ∷ codes "act
 
 -- the text of bounds with a fixed plan: a record for each phase of each node, in the order of the network's file
 abbrev pub fixed_bounds_text : Net → List FixedRow → List ℕ
-fixed_bounds_text net rows = records_text (fixed_header ∷ flat_map (fixed_records net rows) (range_with_len 0 (length net.node_names)))
+fixed_bounds_text net rows =
+    records_text (fixed_header ∷ flat_map (fixed_records net rows) (range_with_len 0 (length net.node_names)))

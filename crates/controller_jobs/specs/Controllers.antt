@@ -98,7 +98,8 @@ factors first last step = map (λ k. first + k * step) (range_with_len 0 ((last 
 
 -- a line of a factor and of what was counted in all in two runs
 abbrev pub scale_line : ℕ → Totals → Totals → List ℕ
-scale_line factor of_plans of_calls = line (decimal factor ∷ codes "planned" ∷ totals_words of_plans ++ codes "actuated" ∷ totals_words of_calls)
+scale_line factor of_plans of_calls =
+    line (decimal factor ∷ codes "planned" ∷ totals_words of_plans ++ codes "actuated" ∷ totals_words of_calls)
 
 -- the line of a factor: what both runs have counted in all where the arrivals are scaled by it
 pub record IsScaleLine (net : Net) (arriving : ℕ → ℕ → ℕ) (factor : ℕ) (bytes : List ℕ) : Type 0 where

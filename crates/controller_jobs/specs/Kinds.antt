@@ -20,7 +20,14 @@ IsBadPlan net text fault = plans.IsTextFault net text fault × (fault ≢ plan.N
 
 -- the kind of texts that say a fixed plan of a network, its rows
 abbrev pub PlanText : Net → Kind
-PlanText net = record { Said = List FixedRow; Fault = FixedFault; is_text = IsPlanText net; is_fault = IsBadPlan net; code = fixed_code }
+PlanText net =
+    record {
+      Said = List FixedRow;
+      Fault = FixedFault;
+      is_text = IsPlanText net;
+      is_fault = IsBadPlan net;
+      code = fixed_code;
+    }
 
 -- the first fault of a text that is to say a store
 abbrev pub IsBadStore : Net → List ℕ → StoreFault → Type 0
@@ -28,4 +35,11 @@ IsBadStore net text fault = stores.IsTextFault net text fault × (fault ≢ stor
 
 -- the kind of texts that say a store, how much each link of a network can hold
 abbrev pub StoreText : Net → Kind
-StoreText net = record { Said = List ℕ; Fault = StoreFault; is_text = IsStoreText net; is_fault = IsBadStore net; code = store_code }
+StoreText net =
+    record {
+      Said = List ℕ;
+      Fault = StoreFault;
+      is_text = IsStoreText net;
+      is_fault = IsBadStore net;
+      code = store_code;
+    }

@@ -28,7 +28,8 @@ spilled_under net arriving store shown =
 
 -- a line of a word and what was counted in all where links hold what a store says and no more, with what waits outside
 abbrev pub spilled_line : List ℕ → SpillTotals → List ℕ
-spilled_line word totals = number_line word (totals.entered ∷ totals.left ∷ totals.on ∷ totals.outside ∷ totals.delay ∷ [])
+spilled_line word totals =
+    number_line word (totals.entered ∷ totals.left ∷ totals.on ∷ totals.outside ∷ totals.delay ∷ [])
 
 -- The bytes are two lines: what is counted under the last timelines of the run of the turn order, and under actuated control that
 -- senses the links as they then are: its last timelines are lawful and safe, and show the signs by which that world moved.
@@ -40,7 +41,9 @@ pub record IsSpillTable (net : Net) (arriving : ℕ → ℕ → ℕ) (store : Li
   pub lawful : AreLawful net (last_lines net are_of_calls.made)
   pub safe : IsSafe net (line_in (last_lines net are_of_calls.made))
   pub signs : LastLinesShow net are_of_calls.made
-  pub lines : bytes ≡ spilled_line (codes "planned") (spilled_under net arriving store (signs_by (line_in run.timelines))) ++ spilled_line (codes "actuated") of_calls
+  pub lines : bytes
+      ≡ spilled_line (codes "planned") (spilled_under net arriving store (signs_by (line_in run.timelines)))
+      ++ spilled_line (codes "actuated") of_calls
 
 -- ---- the report of the run under actuated control
 

@@ -9,7 +9,9 @@ abbrev pub is_step : List ℕ → Bool
 is_step kind = bytes_eq kind (codes "step")
 
 abbrev pub is_passed_over : List ℕ → Bool
-is_passed_over kind = bytes_eq kind (codes "plan") || (bytes_eq kind (codes "green") || (bytes_eq kind (codes "link") || bytes_eq kind (codes "total")))
+is_passed_over kind =
+    bytes_eq kind (codes "plan") ||
+    (bytes_eq kind (codes "green") || (bytes_eq kind (codes "link") || bytes_eq kind (codes "total")))
 
 -- The name in a record of one of the five kinds: that of the node, where it is a step; none in the others, which are passed
 -- over unread.

@@ -20,13 +20,18 @@ pub use Rattle.world_records.specs.Records.{records_text}
 -- The record of a board step of a node in a round: the link, and the version that is read, or else made, where `versions` counts
 -- the forecasts that were published on each link before it.
 abbrev pub step_record : Net → ℕ → ℕ → (ℕ → ℕ) → BoardStep → List (List ℕ)
-step_record net round node versions (Read link) = codes "step" ∷ decimal round ∷ node_name_at net node ∷ codes "read" ∷ link_name_at net link ∷ decimal (versions link) ∷ [] ∷ []
-step_record net round node versions (Publish link) = codes "step" ∷ decimal round ∷ node_name_at net node ∷ codes "publish" ∷ link_name_at net link ∷ decimal (versions link + 1) ∷ [] ∷ []
+step_record net round node versions (Read link) =
+    codes "step" ∷ decimal round ∷ node_name_at net node ∷ codes "read" ∷ link_name_at net link
+    ∷ decimal (versions link) ∷ [] ∷ []
+step_record net round node versions (Publish link) =
+    codes "step" ∷ decimal round ∷ node_name_at net node ∷ codes "publish" ∷ link_name_at net link
+    ∷ decimal (versions link + 1) ∷ [] ∷ []
 
 -- the record of the board step at a place of a history
 abbrev pub step_record_at : Net → List ℕ → ℕ → List (List ℕ)
 step_record_at net history place =
-    step_record net (round_at (board_steps net) history place) (slice_index history place) (λ link. version_at (board_steps net) history link place) (step_at (board_steps net) history place)
+    step_record net (round_at (board_steps net) history place) (slice_index history place)
+    (λ link. version_at (board_steps net) history link place) (step_at (board_steps net) history place)
 
 -- an answer: a plan with its delay and its phases one after another, or none
 abbrev pub answer_fields : Answer → List (List ℕ)
@@ -35,7 +40,9 @@ answer_fields NoPlan = codes "none" ∷ [] ∷ [] ∷ []
 
 -- the record of a plan: the versions that it used, with a semicolon between each two, and its answer
 abbrev pub plan_record : Net → PlanRecord → List (List ℕ)
-plan_record net plan = codes "plan" ∷ decimal plan.round ∷ node_name_at net plan.node ∷ join_with_byte 59 (map (used_text net) plan.used) ∷ answer_fields plan.answer
+plan_record net plan =
+    codes "plan" ∷ decimal plan.round ∷ node_name_at net plan.node ∷ join_with_byte 59 (map (used_text net) plan.used)
+    ∷ answer_fields plan.answer
 
 -- the records of the front of a report: the header, and the steps of the history, in their order
 abbrev pub steps_records : Net → List ℕ → List (List (List ℕ))

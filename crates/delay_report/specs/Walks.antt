@@ -21,5 +21,7 @@ pub record HasWalkedTo (net : Net) (history : List ℕ) (place : ℕ) (walk : Wa
   pub steps : map (λ own. own.items) walk.steps.items ≡ map (board_steps net) (range_with_len 0 (length net.node_names))
   pub nodes : length walk.taken.items ≡ length net.node_names
   pub links : length walk.made.items ≡ length net.link_names
-  pub taken : (node : ℕ) → node < length net.node_names → slice_index walk.taken.items node ≡ count node (take place history)
-  pub made : (link : ℕ) → link < length net.link_names → slice_index walk.made.items link ≡ version_at (board_steps net) history link place
+  pub taken : (node : ℕ) → node < length net.node_names
+      → slice_index walk.taken.items node ≡ count node (take place history)
+  pub made : (link : ℕ) → link < length net.link_names
+      → slice_index walk.made.items link ≡ version_at (board_steps net) history link place

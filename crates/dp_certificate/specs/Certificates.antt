@@ -44,7 +44,8 @@ entry_at entries index = slice_index_or entries index no_entry
 
 -- each entry's key is above the key before it
 abbrev pub AreRising : List Entry → Type 0
-AreRising entries = (k : ℕ) → k + 1 < length entries → IsBefore (digits_of (entry_at entries k)) (digits_of (entry_at entries (k + 1)))
+AreRising entries =
+    (k : ℕ) → k + 1 < length entries → IsBefore (digits_of (entry_at entries k)) (digits_of (entry_at entries (k + 1)))
 
 -- a certificate: an instance, and entries within their bounds that rise; whether they prove the answer is another matter
 pub record IsCertificate (c : Claim) : Type 0 where

@@ -8,7 +8,8 @@ use Rattle.dp_certificate.specs.declared.certificates.CertFault.TheVariants as f
 
 -- the entry at this index is the first out of its bounds
 abbrev pub IsFirstOut : Problem → List Entry → ℕ → Type 0
-IsFirstOut p entries index = (index < length entries) × All (IsEntry p) (take index entries) × ¬ IsEntry p (entry_at entries index)
+IsFirstOut p entries index =
+    (index < length entries) × All (IsEntry p) (take index entries) × ¬ IsEntry p (entry_at entries index)
 
 -- the entry at this index is the first whose key is not above the key before it
 abbrev pub IsFirstLow : List Entry → ℕ → Type 0

@@ -18,7 +18,8 @@ IsSomeDelay p limit = IfSome limit (λ most. (sequence : List ℕ) × (delay_of 
 
 -- the list has the key of every fit prefix that is within the limit
 abbrev pub HasKeysWithin : Problem → Option ℕ → List Key → Type 0
-HasKeysWithin p limit keys = (prefix : List ℕ) → IfSome (stage_of p prefix) (λ s. IsWithin p limit s → Contains keys (key_of s))
+HasKeysWithin p limit keys =
+    (prefix : List ℕ) → IfSome (stage_of p prefix) (λ s. IsWithin p limit s → Contains keys (key_of s))
 
 -- the table with a limit: the entries rise, each is that of a fit prefix and within the limit, and the key of each fit prefix
 -- within the limit is an entry of no more delay
@@ -26,4 +27,5 @@ pub record IsLimited (p : Problem) (limit : Option ℕ) (entries : List Entry) :
   pub rising : AreRising entries
   pub each : All (IsOfPrefix p) entries
   pub within : All (λ e. IsWithin p limit (stage_of_entry p e)) entries
-  pub all : (prefix : List ℕ) → IfSome (stage_of p prefix) (λ s. IsWithin p limit s → HasEntry entries (key_of s) s.delay)
+  pub all : (prefix : List ℕ)
+      → IfSome (stage_of p prefix) (λ s. IsWithin p limit s → HasEntry entries (key_of s) s.delay)

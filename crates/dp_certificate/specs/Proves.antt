@@ -16,7 +16,14 @@ key_of_entry e = record { counts = e.counts; phase = e.phase; since = e.since; a
 
 -- the stage that an entry stands for: its head is fresh only at the first stage's key, and there as the instance's is
 abbrev pub stage_of_entry : Problem → Entry → Stage
-stage_of_entry p e = record { counts = e.counts; head = head_of e ((sum e.counts == 0) && (e.phase == p.head.phase) && (e.since == p.head.since) && (e.at == p.head.at) && p.head.fresh); delay = e.delay }
+stage_of_entry p e =
+    record {
+      counts = e.counts;
+      head = head_of e
+          ((sum e.counts == 0) && (e.phase == p.head.phase) && (e.since == p.head.since) &&
+          (e.at == p.head.at) && p.head.fresh);
+      delay = e.delay;
+    }
 
 -- what one cluster costs that waits until t
 abbrev pub wait_until : ℕ → Cluster → ℕ
@@ -24,7 +31,9 @@ wait_until t c = c.load * (t - c.arr)
 
 -- what the clusters that are not yet served cost at the least, when the green is free at t: each waits until then
 abbrev pub rest_of : Problem → List ℕ → ℕ → ℕ
-rest_of p counts t = sum_by (λ k. sum_by (wait_until t) (drop (slice_index counts k) (list_at p.lists k))) (range_with_len 0 (length p.lists))
+rest_of p counts t =
+    sum_by (λ k. sum_by (wait_until t) (drop (slice_index counts k) (list_at p.lists k)))
+    (range_with_len 0 (length p.lists))
 
 -- the claimed plan is feasible and has the claimed delay
 abbrev pub IsPlanned : Problem → Answer → Type 0
@@ -49,7 +58,9 @@ IsTooDear p NoPlan s = ⊥
 
 -- what is served next after an entry by phase k is an entry again, of no more delay, or too dear
 abbrev pub IsClosedAt : Claim → Entry → ℕ → Type 0
-IsClosedAt c e k = IfSome (stage_after c.problem (stage_of_entry c.problem e) k) (λ s. HasEntry c.entries (key_of s) s.delay ⊎ IsTooDear c.problem c.answer s)
+IsClosedAt c e k =
+    IfSome (stage_after c.problem (stage_of_entry c.problem e) k)
+    (λ s. HasEntry c.entries (key_of s) s.delay ⊎ IsTooDear c.problem c.answer s)
 
 abbrev pub IsClosed : Claim → Entry → Type 0
 IsClosed c e = (k : ℕ) → IsClosedAt c e k

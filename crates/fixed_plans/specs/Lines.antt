@@ -42,7 +42,8 @@ green_of x r = record { phase = r.phase; from = x; to = x + r.green }
 
 -- the green that begins at second x
 abbrev pub green_from : List Phase → List FixedRow → ℕ → Option Green
-green_from plan rows x = option_map (green_of x) (beginning plan 0 rows (cycle_second (cycle_length plan rows) (offset_of rows) x))
+green_from plan rows x =
+    option_map (green_of x) (beginning plan 0 rows (cycle_second (cycle_length plan rows) (offset_of rows) x))
 
 -- the timeline of the rows of a node up to one cycle after a second: all greens that begin before then, of the cycles from the
 -- offset on, and of those that begin whole cycles before it

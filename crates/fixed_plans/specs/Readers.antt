@@ -20,7 +20,8 @@ pub record IsPlaced (net : Net) (b : Before) : Type 0 where
 abbrev pub Reads : Net → List (List ℕ) → ℕ → Result FixedRow FixedFault → Type 0
 Reads net fields number (Ok r) = parse_in net fields ≡ Some r
 Reads net fields number (Err (Row n)) = (n ≡ number) × (parse fields ≡ None)
-Reads net fields number (Err (Node n)) = (n ≡ number) × IsSomeAnd (parse fields) (λ t. number_of net.node_names t.name ≡ None)
+Reads net fields number (Err (Node n)) =
+    (n ≡ number) × IsSomeAnd (parse fields) (λ t. number_of net.node_names t.name ≡ None)
 Reads net fields number (Err _) = ⊥
 
 -- the row was added after the last one, where it is lawful; else its first fault, or out of memory

@@ -27,11 +27,13 @@ pub record BeginsAt (rows : List Green) (k second : ℕ) : Type 0 where
 -- Each red of phase k, after its first green, is `red` seconds long: `red` seconds after the end of a green of it the next one begins,
 -- where that is `end` at the latest, and none begins before.
 pub record HasReds (rows : List Green) (k red end : ℕ) : Type 0 where
-  pub next : (i : ℕ) → i < length rows → (row_at rows i).phase ≡ k → (row_at rows i).to + red ≤ end → BeginsAt rows k ((row_at rows i).to + red)
+  pub next : (i : ℕ) → i < length rows → (row_at rows i).phase ≡ k → (row_at rows i).to + red ≤ end
+      → BeginsAt rows k ((row_at rows i).to + red)
   pub none :
       (i j : ℕ) → i < length rows → j < length rows → (row_at rows i).phase ≡ k → (row_at rows j).phase ≡ k
       → (row_at rows i).from < (row_at rows j).from → (row_at rows i).to + red ≤ (row_at rows j).from
 
 -- in the timelines of the nodes each red of phase k of a node is `reds node k` seconds long up to a second, where the phase has such a length
 abbrev pub AreReds : Net → (ℕ → ℕ → Option ℕ) → (ℕ → List Green) → ℕ → Type 0
-AreReds net reds lines end = (node k red : ℕ) → node < length net.node_names → reds node k ≡ Some red → HasReds (lines node) k red end
+AreReds net reds lines end =
+    (node k red : ℕ) → node < length net.node_names → reds node k ≡ Some red → HasReds (lines node) k red end

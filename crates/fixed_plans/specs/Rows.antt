@@ -25,7 +25,8 @@ pub record IsFirstFrom (plan : List Phase) (low k : ℕ) : Type 0 where
 -- A row may be the last of its node: all phases after its own are marked, and it is not the only row. A ring with unmarked phases has two
 -- rows or more for them; in a free ring two phases or more have one, whichever they are.
 abbrev pub IsLastRow : Net → Before → Type 0
-IsLastRow net b = (b.first ≡ false) × AreMarked (plan_at net b.row.node) (b.row.phase + 1) (length (plan_at net b.row.node))
+IsLastRow net b =
+    (b.first ≡ false) × AreMarked (plan_at net b.row.node) (b.row.phase + 1) (length (plan_at net b.row.node))
 
 -- whether a row is the first of its node, after the row before it
 abbrev pub is_first : Option Before → FixedRow → Bool

@@ -25,7 +25,8 @@ Follows all Never rest cost = ⊥
 Follows all Complete [] cost = cost ≡ 0
 Follows all Complete (k ∷ ks) cost = ⊥
 Follows all (By own phase next) [] cost = ⊥
-Follows all (By own phase next) (k ∷ ks) cost = (own ≡ cost) × (phase ≡ k) × (next < length all) × (left : ℕ) × Follows all (completion_at all next) ks left
+Follows all (By own phase next) (k ∷ ks) cost =
+    (own ≡ cost) × (phase ≡ k) × (next < length all) × (left : ℕ) × Follows all (completion_at all next) ks left
 
 -- phases that serve all that is left after a stage, and what they cost
 pub record Completes (p : Problem) (s : Stage) (rest : List ℕ) (cost : ℕ) : Type 0 where
@@ -47,7 +48,8 @@ pub record IsCheapest (p : Problem) (all : List Completion) (s : Stage) (n : ℕ
   pub follows : Follows all c rest cost
   pub completes : Completes p s rest cost
   pub begins : BeginsBelow n rest
-  pub least : (other : List ℕ) (d : ℕ) → Completes p s other d → BeginsBelow n other → (cost < d) ⊎ ((cost ≡ d) × (order_number rest ≤ order_number other))
+  pub least : (other : List ℕ) (d : ℕ) → Completes p s other d → BeginsBelow n other
+      → (cost < d) ⊎ ((cost ≡ d) × (order_number rest ≤ order_number other))
 
 -- no phases complete a stage and begin below a number, and the completion is none
 pub record IsNever (p : Problem) (s : Stage) (n : ℕ) (c : Completion) : Type 0 where
@@ -64,7 +66,9 @@ IsCompletion p all s c = IsBestBelow p all s (length p.plan) c
 
 -- the completions of the last entries, from the last one back
 abbrev pub AreCompletions : Problem → List Entry → List Completion → Type 0
-AreCompletions p entries all = (far : ℕ) → far < length all → IsCompletion p all (stage_of_entry p (entry_at entries (length entries - 1 - far))) (completion_at all far)
+AreCompletions p entries all =
+    (far : ℕ) → far < length all
+    → IsCompletion p all (stage_of_entry p (entry_at entries (length entries - 1 - far))) (completion_at all far)
 
 -- following completions from one on gives at most this many phases
 pub record IsFollowed (all : List Completion) (first : Completion) (most : ℕ) : Type 0 where
@@ -76,8 +80,10 @@ pub record IsFollowed (all : List Completion) (first : Completion) (most : ℕ) 
 -- the better of a completion and the one by a phase at this cost, which another completion goes on from
 pub record IsBetter (best : Completion) (phase cost next : ℕ) (rest result : Completion) : Type 0 where
   pub never : cost_of rest ≡ None → result ≡ best
-  pub stays : (left least : ℕ) → cost_of rest ≡ Some left → cost_of best ≡ Some least → least ≤ cost + left → result ≡ best
-  pub less : (left least : ℕ) → cost_of rest ≡ Some left → cost_of best ≡ Some least → cost + left < least → result ≡ By (cost + left) phase next
+  pub stays : (left least : ℕ) → cost_of rest ≡ Some left → cost_of best ≡ Some least → least ≤ cost + left
+      → result ≡ best
+  pub less : (left least : ℕ) → cost_of rest ≡ Some left → cost_of best ≡ Some least → cost + left < least
+      → result ≡ By (cost + left) phase next
   pub first : (left : ℕ) → cost_of rest ≡ Some left → cost_of best ≡ None → result ≡ By (cost + left) phase next
 
 -- by a phase, the entry at a place leads to the key of the one at another place, at this cost

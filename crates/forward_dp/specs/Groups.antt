@@ -36,12 +36,14 @@ pub record IsSource (p : Problem) (k : ℕ) (cluster : Cluster) (source : List R
 
 -- a row is reached from one of the first n rows when this cluster of phase k is served next, in the green that stands or
 -- in a new one, and is within the limit
-pub record IsArrival (p : Problem) (limit : Option ℕ) (k : ℕ) (cluster : Cluster) (source : List Row) (n : ℕ) (kept : Bool) (c : Row) : Type 0 where
+pub record IsArrival (p : Problem) (limit : Option ℕ) (k : ℕ) (cluster : Cluster) (source : List Row) (n : ℕ)
+    (kept : Bool) (c : Row) : Type 0 where
   pub place : ℕ
   pub first : place < n
   pub inside : place < length source
   pub served : Served
-  pub serves : serving p.plan (stage_of_entry p (row_at source place).entry).head k cluster ≡ Ok (served, head_of c.entry false)
+  pub serves : serving p.plan (stage_of_entry p (row_at source place).entry).head k cluster
+      ≡ Ok (served, head_of c.entry false)
   pub on : served.kept ≡ kept
   pub leads : stage_after p (stage_of_entry p (row_at source place).entry) k ≡ Some (stage_of_next c.entry)
   pub order : c.order ≡ (row_at source place).order * 4 + k
@@ -57,11 +59,14 @@ pub record HasPlaced (places : List (Option Row)) (time delay order : ℕ) : Typ
   pub no_worse : IsNoWorse row delay order
 
 -- the best of what the first n rows reach: in greens that go on, and in new greens by how long the cluster waits
-pub record AreReachedBy (p : Problem) (limit : Option ℕ) (k : ℕ) (cluster : Cluster) (source : List Row) (n : ℕ) (reached : Reached) : Type 0 where
+pub record AreReachedBy (p : Problem) (limit : Option ℕ) (k : ℕ) (cluster : Cluster) (source : List Row) (n : ℕ)
+    (reached : Reached) : Type 0 where
   pub kept_later : AreLater reached.kept.items
   pub kept_best : AreBestOf (IsArrival p limit k cluster source n true) reached.kept.items
-  pub new_from : (w : ℕ) (r : Row) → row_in reached.greens w ≡ Some r → IsArrival p limit k cluster source n false r × IsNewGreen (phase_at p.plan k) cluster w (head_of r.entry false)
-  pub new_all : (c : Row) → IsArrival p limit k cluster source n false c → HasPlaced reached.greens (time_of c) c.entry.delay c.order
+  pub new_from : (w : ℕ) (r : Row) → row_in reached.greens w ≡ Some r
+      → IsArrival p limit k cluster source n false r × IsNewGreen (phase_at p.plan k) cluster w (head_of r.entry false)
+  pub new_all : (c : Row) → IsArrival p limit k cluster source n false c
+      → HasPlaced reached.greens (time_of c) c.entry.delay c.order
   pub fresh : reached.fresh.items ≡ []
 
 -- nothing is reached
@@ -78,7 +83,8 @@ pub record AreJoined (reached : Reached) (old new : List Row) : Type 0 where
   pub best : AreBestOf (λ c. IsPlaced reached.greens c ⊎ Contains reached.kept.items c) made
 
 -- after the rows stand, in the order of their times, the best of what is reached from the source
-pub record AreMade (p : Problem) (limit : Option ℕ) (k : ℕ) (cluster : Cluster) (source old new : List Row) : Type 0 where
+pub record AreMade (p : Problem) (limit : Option ℕ) (k : ℕ) (cluster : Cluster)
+    (source old new : List Row) : Type 0 where
   pub made : List Row
   pub is : new ≡ old ++ made
   pub later : AreLater made

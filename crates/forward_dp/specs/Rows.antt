@@ -51,7 +51,8 @@ pub record IsOffered (old new : List (Option Row)) (place : ℕ) (row : Row) : T
 
 -- a row in a later place is later
 abbrev pub AreRisingPlaces : List (Option Row) → Type 0
-AreRisingPlaces places = (j k : ℕ) (a b : Row) → j < k → row_in places j ≡ Some a → row_in places k ≡ Some b → time_of a < time_of b
+AreRisingPlaces places =
+    (j k : ℕ) (a b : Row) → j < k → row_in places j ≡ Some a → row_in places k ≡ Some b → time_of a < time_of b
 
 -- one of the rows in places
 abbrev pub IsPlaced : List (Option Row) → Row → Type 0

@@ -56,13 +56,15 @@ pub record IsTable (p : Problem) (limit : Option ℕ) (group : ℕ) (rows : List
   pub made : AreRows p rows
   pub within : AreWithin p limit rows
   pub below : All (λ r. row_group r < group) rows
-  pub all : (prefix : List ℕ) (s : Stage) → stage_of p prefix ≡ Some s → stage_group s < group → IsWithin p limit s → HasRowFor rows s (order_number prefix)
+  pub all : (prefix : List ℕ) (s : Stage) → stage_of p prefix ≡ Some s → stage_group s < group → IsWithin p limit s
+      → HasRowFor rows s (order_number prefix)
 
 -- the whole table with a limit
 pub record IsWholeTable (p : Problem) (limit : Option ℕ) (rows : List Row) : Type 0 where
   pub made : AreRows p rows
   pub within : AreWithin p limit rows
-  pub all : (prefix : List ℕ) (s : Stage) → stage_of p prefix ≡ Some s → IsWithin p limit s → HasRowFor rows s (order_number prefix)
+  pub all : (prefix : List ℕ) (s : Stage) → stage_of p prefix ≡ Some s → IsWithin p limit s
+      → HasRowFor rows s (order_number prefix)
 
 -- the first place, from one on, of a row whose counts have at least this number: what stands before it has less
 pub record IsFrom (rows : List Row) (from least place : ℕ) : Type 0 where
@@ -76,7 +78,8 @@ pub record IsNextCounts (last old new : List ℕ) : Type 0 where
   pub places : length new ≡ 4
   pub within : (k : ℕ) → slice_index new k ≤ slice_index last k
   pub above : counts_number old < counts_number new
-  pub least : (c : List ℕ) → ((k : ℕ) → slice_index c k ≤ slice_index last k) → counts_number c < counts_number new → counts_number c ≤ counts_number old
+  pub least : (c : List ℕ) → ((k : ℕ) → slice_index c k ≤ slice_index last k) → counts_number c < counts_number new
+      → counts_number c ≤ counts_number old
 
 -- what the number of counts gains with one more of phase k
 abbrev pub unit_of : ℕ → ℕ
@@ -101,7 +104,8 @@ pub record CanFill (p : Problem) (limit : Option ℕ) (counts : List ℕ) (k fro
   pub behind : AreBelow rows k (counts_number counts) from
 
 -- these counts are reached by phase k, by rows after the others, from rows that end at a place
-pub record IsFilled (p : Problem) (limit : Option ℕ) (counts : List ℕ) (k : ℕ) (old new : List Row) (end : ℕ) : Type 0 where
+pub record IsFilled (p : Problem) (limit : Option ℕ) (counts : List ℕ) (k : ℕ) (old new : List Row)
+    (end : ℕ) : Type 0 where
   pub table : IsTable p limit (counts_number counts * 4 + k + 1) new
   pub made : List Row
   pub longer : new ≡ old ++ made
@@ -116,10 +120,12 @@ pub record AreEnds (phases : ℕ) (rows : List Row) (number phase : ℕ) (ends :
   pub within : (k : ℕ) → slice_index ends k ≤ length rows
   pub none : (k : ℕ) → phases ≤ k → slice_index ends k ≡ 0
   pub behind : (k : ℕ) → AreBelow rows k number (slice_index ends k)
-  pub ahead : (k : ℕ) → phase ≤ k → (place : ℕ) → place < slice_index ends k → counts_number_at rows place + unit_of k + 1 < number
+  pub ahead : (k : ℕ) → phase ≤ k → (place : ℕ) → place < slice_index ends k
+      → counts_number_at rows place + unit_of k + 1 < number
 
 -- the cell with these counts can be made, of which some are not zero
-pub record CanFillCell (p : Problem) (limit : Option ℕ) (counts : List ℕ) (rows : List Row) (ends : List ℕ) : Type 0 where
+pub record CanFillCell (p : Problem) (limit : Option ℕ) (counts : List ℕ) (rows : List Row)
+    (ends : List ℕ) : Type 0 where
   pub lawful : IsInstance p
   pub places : length counts ≡ 4
   pub within : (j : ℕ) → slice_index counts j ≤ length (list_at p.lists j)
@@ -128,7 +134,8 @@ pub record CanFillCell (p : Problem) (limit : Option ℕ) (counts : List ℕ) (r
   pub known : AreEnds (length p.plan) rows (counts_number counts + 1) 0 ends
 
 -- the cell is made
-pub record IsCellFilled (p : Problem) (limit : Option ℕ) (counts : List ℕ) (new : List Row) (ends : List ℕ) : Type 0 where
+pub record IsCellFilled (p : Problem) (limit : Option ℕ) (counts : List ℕ) (new : List Row)
+    (ends : List ℕ) : Type 0 where
   pub table : IsTable p limit (counts_number counts * 4 + 4) new
   pub known : AreEnds (length p.plan) new (counts_number counts + 1) 4 ends
 
@@ -160,7 +167,8 @@ base_of rows (suc k) = cond rows.apart rows.gone (rows.gone + length rows.earlie
 pub record AreBetween (low middle high : ℕ) (gone : List Row) (rows : Rows) : Type 0 where
   pub past : All (λ r. counts_number r.entry.counts + 262144 < low) gone
   pub earlier : All (λ r. counts_number r.entry.counts < middle) rows.earlier.items
-  pub latest : All (λ r. (middle ≤ counts_number r.entry.counts) × (counts_number r.entry.counts < high)) rows.latest.items
+  pub latest : All
+      (λ r. (middle ≤ counts_number r.entry.counts) × (counts_number r.entry.counts < high)) rows.latest.items
 
 -- the latest rows have this many clusters of the first phase, the earlier ones fewer, and those that are dropped at least two fewer
 abbrev pub AreParted : ℕ → List Row → Rows → Type 0
@@ -168,14 +176,16 @@ AreParted first gone rows = AreBetween (first * 262144) (first * 262144) (first 
 
 -- of the counts within the lists none are above these
 abbrev pub IsLastCounts : Problem → List ℕ → Type 0
-IsLastCounts p counts = (c : List ℕ) → ((k : ℕ) → slice_index c k ≤ length (list_at p.lists k)) → counts_number c ≤ counts_number counts
+IsLastCounts p counts =
+    (c : List ℕ) → ((k : ℕ) → slice_index c k ≤ length (list_at p.lists k)) → counts_number c ≤ counts_number counts
 
 -- the cell with these counts is the last one, and stands apart: the first phase is served, the latest rows have these counts, the
 -- earlier ones lower counts, and those that are dropped fewer clusters of the first phase
 pub record IsApart (p : Problem) (k : ℕ) (counts : List ℕ) (gone : List Row) (rows : Rows) : Type 0 where
   pub served : 0 < k
   pub last : IsLastCounts p counts
-  pub parts : AreBetween (slice_index counts 0 * 262144 + 262144) (counts_number counts) (slice_index counts 0 * 262144 + 262144) gone rows
+  pub parts : AreBetween (slice_index counts 0 * 262144 + 262144) (counts_number counts)
+      (slice_index counts 0 * 262144 + 262144) gone rows
 
 -- the rows as they stand while the cell with these counts is made, once the phases before k are served
 pub record AreStanding (p : Problem) (k : ℕ) (counts : List ℕ) (gone : List Row) (rows : Rows) : Type 0 where
@@ -202,28 +212,34 @@ pub record IsLeft (Holds : List Row → Type 0) (ends : Bool) (gone : List Row) 
   pub held : Holds past
   pub count : old.gone ≡ length gone → new.gone ≡ length past
   pub stays : ends ≡ false → (past ≡ gone) × (new ≡ old)
-  pub goes : ends ≡ true → (past ≡ gone ++ old.earlier.items) × (new.earlier.items ≡ old.latest.items) × (new.latest.items ≡ []) × (new.apart ≡ true)
+  pub goes : ends ≡ true
+      → (past ≡ gone ++ old.earlier.items) × (new.earlier.items ≡ old.latest.items) × (new.latest.items ≡ [])
+      × (new.apart ≡ true)
   pub same : all_rows past new ≡ all_rows gone old
 
 -- the group with these counts and this phase can be filled
-pub record IsGroupReady (p : Problem) (limit : Option ℕ) (counts : List ℕ) (k from : ℕ) (gone : List Row) (rows : Rows) : Type 0 where
+pub record IsGroupReady (p : Problem) (limit : Option ℕ) (counts : List ℕ) (k from : ℕ) (gone : List Row)
+    (rows : Rows) : Type 0 where
   pub can : CanFill p limit counts k from (all_rows gone rows)
   pub standing : AreStanding p k counts gone rows
 
 -- the group with these counts and this phase is filled, and perhaps further rows are dropped
-pub record IsGroupFilled (Holds : List Row → Type 0) (p : Problem) (limit : Option ℕ) (counts : List ℕ) (k : ℕ) (gone : List Row) (old new : Rows) (end : ℕ) : Type 0 where
+pub record IsGroupFilled (Holds : List Row → Type 0) (p : Problem) (limit : Option ℕ) (counts : List ℕ) (k : ℕ)
+    (gone : List Row) (old new : Rows) (end : ℕ) : Type 0 where
   pub past : List Row
   pub held : Holds past
   pub filled : IsFilled p limit counts k (all_rows gone old) (all_rows past new) end
   pub standing : AreStanding p (k + 1) counts past new
 
 -- the cell with these counts can be filled
-pub record IsCellReady (p : Problem) (limit : Option ℕ) (counts : List ℕ) (gone : List Row) (rows : Rows) (ends : List ℕ) : Type 0 where
+pub record IsCellReady (p : Problem) (limit : Option ℕ) (counts : List ℕ) (gone : List Row) (rows : Rows)
+    (ends : List ℕ) : Type 0 where
   pub can : CanFillCell p limit counts (all_rows gone rows) ends
   pub standing : AreStanding p 0 counts gone rows
 
 -- the cell with these counts is filled, and some rows are dropped
-pub record IsCellMade (Holds : List Row → Type 0) (p : Problem) (limit : Option ℕ) (counts : List ℕ) (rows : Rows) (ends : List ℕ) : Type 0 where
+pub record IsCellMade (Holds : List Row → Type 0) (p : Problem) (limit : Option ℕ) (counts : List ℕ) (rows : Rows)
+    (ends : List ℕ) : Type 0 where
   pub gone : List Row
   pub held : Holds gone
   pub filled : IsCellFilled p limit counts (all_rows gone rows) ends
@@ -232,7 +248,8 @@ pub record IsCellMade (Holds : List Row → Type 0) (p : Problem) (limit : Optio
 -- the whole table, of which some rows are dropped; those before the latest have lower counts than the last
 pub record IsTableMade (p : Problem) (limit : Option ℕ) (gone : List Row) (rows : Rows) : Type 0 where
   pub table : IsWholeTable p limit (all_rows gone rows)
-  pub before : (last : List ℕ) → AreLengths p.lists last → All (λ r. counts_number r.entry.counts < counts_number last) (gone ++ rows.earlier.items)
+  pub before : (last : List ℕ) → AreLengths p.lists last
+      → All (λ r. counts_number r.entry.counts < counts_number last) (gone ++ rows.earlier.items)
 
 -- a table that has a row of each least sequence: one with no limit, or with one that a feasible sequence keeps
 pub record HasAnswers (p : Problem) (rows : Rows) : Type 0 where

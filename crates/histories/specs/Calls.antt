@@ -30,7 +30,8 @@ module _ (steps : ℕ → List BoardStep) where
   -- the calls of the nodes are their steps, round by round, and the stamps of a round are below those of the next
   abbrev pub AreStepRounds : ℕ → (ℕ → List Call) → Type 0
   AreStepRounds zero calls = (node : ℕ) → calls node ≡ []
-  AreStepRounds (suc rounds) calls = (early last : ℕ → List Call) × (mark : ℕ) × IsLastRound mark calls early last × AreStepRounds rounds early
+  AreStepRounds (suc rounds) calls = (early last : ℕ → List Call) × (mark : ℕ) × IsLastRound mark calls early last
+      × AreStepRounds rounds early
 
   -- the calls of `rounds` rounds, each node's in the order of its stamps
   pub record AreCalls (rounds : ℕ) (calls : ℕ → List Call) : Type 0 where

@@ -33,7 +33,8 @@ module _ (steps : ℕ → List BoardStep) where
   -- `rounds` rounds, one after another
   abbrev pub HasRounds : ℕ → List ℕ → Type 0
   HasRounds zero history = history ≡ []
-  HasRounds (suc rounds) history = (early block : List ℕ) × (history ≡ early ++ block) × IsRound block × HasRounds rounds early
+  HasRounds (suc rounds) history = (early block : List ℕ) × (history ≡ early ++ block) × IsRound block
+      × HasRounds rounds early
 
   -- A history under way: `done` rounds are done, and of the next one a part, in which no node has more steps than a round
   -- has, and some node has fewer. Once all rounds are done, nothing more.
@@ -63,15 +64,18 @@ module _ (steps : ℕ → List BoardStep) where
 
   -- the version of a link at a place: how many Publishes of the link are before it
   abbrev pub version_at : List ℕ → ℕ → ℕ → ℕ
-  version_at history link place = count_by (λ before. is_publish_of link (step_at history before)) (range_with_len 0 place)
+  version_at history link place = count_by (λ before. is_publish_of link (step_at history before))
+      (range_with_len 0 place)
 
   -- the version of a link at a place is the place's round, or one more
   abbrev pub IsOfRound : List ℕ → ℕ → ℕ → Type 0
-  IsOfRound history link place = (round_at history place ≤ version_at history link place) × (version_at history link place ≤ round_at history place + 1)
+  IsOfRound history link place = (round_at history place ≤ version_at history link place)
+      × (version_at history link place ≤ round_at history place + 1)
 
   -- wherever a node reads a link, its version is the round of the place: what was published in the round before, and nothing of this one
   abbrev pub ReadsRoundBefore : List ℕ → Type 0
-  ReadsRoundBefore history = (place link : ℕ) → place < length history → step_at history place ≡ Read link → version_at history link place ≡ round_at history place
+  ReadsRoundBefore history = (place link : ℕ) → place < length history → step_at history place ≡ Read link
+      → version_at history link place ≡ round_at history place
 
 -- a history is lawful for a network where it has the network's rounds
 abbrev pub IsLawful : Net → List ℕ → Type 0
@@ -83,4 +87,6 @@ turn_order net = concat (replicate net.run.rounds (turns (board_steps net) (leng
 
 -- the read-first order: in each round all nodes do their Reads, in number order, and then all do their Publishes
 abbrev pub read_first : Net → List ℕ
-read_first net = concat (replicate net.run.rounds (turns (readings net) (length net.node_names) ++ turns (publishings net) (length net.node_names)))
+read_first net =
+    concat (replicate net.run.rounds
+    (turns (readings net) (length net.node_names) ++ turns (publishings net) (length net.node_names)))

@@ -19,9 +19,11 @@ module _ (steps : ℕ → List BoardStep) (from : ℕ → ℕ) (calls : ℕ → 
     pub found : slice_get (calls (slice_index history place)) (earlier history place) ≡ Some call
     pub step : step_at steps history place ≡ step_of call
     pub version : call.publishes ≡ false → call.version ≡ version_at steps history call.link place
-    pub forecast : call.publishes ≡ false → call.forecast ≡ slice_index_or ([] ∷ sent call.link (calls (from call.link))) call.version []
+    pub forecast : call.publishes ≡ false
+        → call.forecast ≡ slice_index_or ([] ∷ sent call.link (calls (from call.link))) call.version []
 
   -- each place of the history has a call that stands there, and each call of a node has, in the node's order, a place
   pub record AreTold (history : List ℕ) : Type 0 where
     pub places : (place : ℕ) → place < length history → (call : Call) × StandsAt history place call
-    pub made : (node before : ℕ) (call : Call) → slice_get (calls node) before ≡ Some call → (place : ℕ) × IsEntry history node before place × StandsAt history place call
+    pub made : (node before : ℕ) (call : Call) → slice_get (calls node) before ≡ Some call
+        → (place : ℕ) × IsEntry history node before place × StandsAt history place call

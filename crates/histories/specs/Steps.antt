@@ -41,8 +41,12 @@ step_if (Some n) node step = if n == node then step ∷ [] else []
 -- Who plays on a link, each once in a round: on one that comes from a node and ends at one, the node at its begin publishes
 -- and the node at its end reads. On any other link nobody does.
 pub record IsPlayedByEnds (net : Net) (link : ℕ) : Type 0 where
-  pub publishes : (node : ℕ) → filter (is_publish_of link) (board_steps net node) ≡ (if is_some (link_at net link).to then step_if (link_at net link).from node (Publish link) else [])
-  pub reads : (node : ℕ) → filter (is_read_of link) (board_steps net node) ≡ (if is_some (link_at net link).from then step_if (link_at net link).to node (Read link) else [])
+  pub publishes : (node : ℕ)
+      → filter (is_publish_of link) (board_steps net node)
+      ≡ (if is_some (link_at net link).to then step_if (link_at net link).from node (Publish link) else [])
+  pub reads : (node : ℕ)
+      → filter (is_read_of link) (board_steps net node)
+      ≡ (if is_some (link_at net link).from then step_if (link_at net link).to node (Read link) else [])
 
 -- What is true of the steps of every network: there are none past the last node, a node has few, and the ends of each link
 -- play on it.

@@ -18,7 +18,8 @@ abbrev pub text_of : Form → List ℕ
 text_of form = whole_text form.free_ring form.phases.items form.head form.lists.items
 
 -- the form has these phases, this head and these lists, and says this of its ring
-pub record HasParts (form : Form) (free : Bool) (plan : List Phase) (h : Head) (lists : List (List Cluster)) : Type 0 where
+pub record HasParts (form : Form) (free : Bool) (plan : List Phase) (h : Head)
+    (lists : List (List Cluster)) : Type 0 where
   pub ring : form.free_ring ≡ free
   pub phases : form.phases.items ≡ plan
   pub head : form.head ≡ h

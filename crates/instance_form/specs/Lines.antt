@@ -31,7 +31,8 @@ numbers_at (limit ∷ limits) last bytes = do
 -- the first of these values whose text is at the front
 unfoldable pub value_at : {A : Type 0} → (A → List ℕ) → List A → List ℕ → Option (A × List ℕ)
 value_at text [] bytes = None
-value_at text (x ∷ xs) bytes = option_or (option_map (λ rest. (x, rest)) (literal_at (text x) bytes)) (value_at text xs bytes)
+value_at text (x ∷ xs) bytes =
+    option_or (option_map (λ rest. (x, rest)) (literal_at (text x) bytes)) (value_at text xs bytes)
 
 -- ---- the first two lines
 

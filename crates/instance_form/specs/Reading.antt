@@ -90,4 +90,8 @@ form_at line bytes = do
   head ← ok_or (head_line_at plan.1) (line + 2 + first.1)
   lists ← Ok (lists_at first.0 first.1 0 head.1)
   rest ← closing_at first.0 lists.0 (line + 2 + first.1 + 1 + sum_by (λ list. length list) lists.0) lists.1
-  Ok (record { free = says_free first.0; plan = plan.0; head = head.0; lists = lists.0 }, line + 2 + first.1 + 1 + sum_by (λ list. length list) lists.0 + 1, rest)
+  Ok (
+    record { free = says_free first.0; plan = plan.0; head = head.0; lists = lists.0 },
+    line + 2 + first.1 + 1 + sum_by (λ list. length list) lists.0 + 1,
+    rest,
+  )

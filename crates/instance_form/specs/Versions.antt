@@ -31,4 +31,5 @@ says_free Four = true
 
 -- the least version that says these phases and clusters, and whether the ring may be free
 abbrev pub version_of : Bool → List Phase → List (List Cluster) → Version
-version_of free plan lists = if free then Four else (if has_loads lists then Three else (if has_marks plan then Two else One))
+version_of free plan lists =
+    if free then Four else (if has_loads lists then Three else (if has_marks plan then Two else One))

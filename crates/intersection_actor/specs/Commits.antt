@@ -55,7 +55,8 @@ line_for plan head NoPlan served until = rotation_of plan head until
 
 -- Whether a node recalls phase k in this round: the queue of one of its links has stood for this many seconds or longer.
 abbrev pub is_recalled : Net → ℕ → Sensed → ℕ → ℕ → Bool
-is_recalled net node sensed recall k = list_any (λ l. nat_le recall (sense_of sensed l).stood) (phase_links_at net node k)
+is_recalled net node sensed recall k =
+    list_any (λ l. nat_le recall (sense_of sensed l).stood) (phase_links_at net node k)
 
 -- the phases of a node as it plans them in this round: where the network has `recall`, those that it recalls have no mark, and in a free
 -- ring with such a phase none has
@@ -69,7 +70,8 @@ round_plan net node sensed = plan_by net node sensed net.run.recall
 
 -- What a node has to plan, from its timeline, what it senses and what it has heard: the clusters of the window of the platoons that it
 -- expects, from the head that its timeline has now, by its phases of this round.
-pub record IsProblemOf (net : Net) (node : ℕ) (line : List Green) (sensed : Sensed) (heard : List Heard) (head : Head) (platoons : List (List Platoon)) (window : Window) (problem : Problem) : Type 0 where
+pub record IsProblemOf (net : Net) (node : ℕ) (line : List Green) (sensed : Sensed) (heard : List Heard) (head : Head)
+    (platoons : List (List Platoon)) (window : Window) (problem : Problem) : Type 0 where
   pub at : head_at (plan_at net node) line sensed.now ≡ Some head
   pub expected : AreExpected net node head sensed heard platoons
   pub taken : IsWindow platoons window
@@ -77,7 +79,8 @@ pub record IsProblemOf (net : Net) (node : ℕ) (line : List Green) (sensed : Se
 
 -- A node's commit in a round: of what it has to plan it takes the best answer; its new timeline is the old one, spliced with the
 -- timeline of that answer for as long as the network looks ahead.
-pub record IsCommit (net : Net) (node round : ℕ) (old : List Green) (sensed : Sensed) (heard : List Heard) (c : Commitment) : Type 0 where
+pub record IsCommit (net : Net) (node round : ℕ) (old : List Green) (sensed : Sensed) (heard : List Heard)
+    (c : Commitment) : Type 0 where
   pub now : sensed.now ≡ round * net.run.step
   pub problem : IsProblemOf net node old sensed heard c.head c.platoons c.window c.problem
   pub answer : IsBest c.problem c.answer
@@ -91,4 +94,5 @@ used_of heard = map (λ h. record { link = h.link; version = h.version }) heard
 
 -- the plan record of a commit
 abbrev pub record_of : ℕ → ℕ → List Heard → Commitment → PlanRecord
-record_of node round heard c = record { node = node; round = round; used = used_of heard; instance = c.problem; answer = c.answer }
+record_of node round heard c =
+    record { node = node; round = round; used = used_of heard; instance = c.problem; answer = c.answer }

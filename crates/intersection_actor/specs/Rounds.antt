@@ -82,6 +82,7 @@ pub record IsCommitted (net : Net) (old new : Acting) : Type 0 where
 -- which the node hears, in their order.
 pub record KeepsPast (net : Net) (old new : Acting) : Type 0 where
   pub past : (second : ℕ) → second < old.sensed.now → sign_at new.line second ≡ sign_at old.line second
-  pub colours : (k second : ℕ) → second < old.sensed.now → colour_at (plan_at net old.node) new.line k second ≡ colour_at (plan_at net old.node) old.line k second
+  pub colours : (k second : ℕ) → second < old.sensed.now
+      → colour_at (plan_at net old.node) new.line k second ≡ colour_at (plan_at net old.node) old.line k second
   pub later : (old.round + 1) * net.run.step < end_of new.line
   pub used : map (λ (u : Used). u.link) (used_of old.heard) ≡ heard_links net old.node

@@ -11,7 +11,8 @@ use Rattle.intersection_actor.specs.declared.records.PlanRecord.{PlanRecord}
 
 -- the plan record of a plan of a round
 abbrev pub record_from : ℕ → ℕ → RoundPlan → PlanRecord
-record_from node round p = record { node = node; round = round; used = p.used; instance = p.instance; answer = p.schedule.answer }
+record_from node round p =
+    record { node = node; round = round; used = p.used; instance = p.instance; answer = p.schedule.answer }
 
 -- what a node keeps of a plan besides its record and its timeline
 abbrev pub kept_of : RoundPlan → Kept
@@ -19,5 +20,7 @@ kept_of p = record { window = p.window; phases = p.schedule.phases; served = p.s
 
 -- what splicing keeps of a lawful timeline
 abbrev pub IsLawAlong : List Green → List Green → List Green → Type 0
-IsLawAlong old next new = (plan : List Phase) (now : ℕ) (head : Head) → IsRing plan → IsLawful plan old → head_at plan old now ≡ Some head → IsLawful plan next → GoesOn head next
+IsLawAlong old next new =
+    (plan : List Phase) (now : ℕ) (head : Head) → IsRing plan → IsLawful plan old → head_at plan old now ≡ Some head
+    → IsLawful plan next → GoesOn head next
     → IsContinued plan old now next new

@@ -29,7 +29,8 @@ ArriveBy second lists = All (λ list. All (λ (c : Cluster). c.arr ≤ second) l
 
 -- the window of the platoons that a node with this head expects: they are the node's, and their clusters make an instance, and
 -- arrive while the network looks ahead
-pub record IsExpected (net : Net) (node : ℕ) (head : Head) (sensed : Sensed) (heard : List Heard) (window : Window) : Type 0 where
+pub record IsExpected (net : Net) (node : ℕ) (head : Head) (sensed : Sensed) (heard : List Heard)
+    (window : Window) : Type 0 where
   pub platoons : List (List Platoon)
   pub are : AreExpected net node head sensed heard platoons
   pub longest : IsWindow platoons window
@@ -77,14 +78,17 @@ commitment old head platoons p = record {
 }
 
 -- a node's plan of a round: it is that of the node's commit, and can be told and spliced into the timeline
-pub record IsPlanned (net : Net) (node : ℕ) (old : List Green) (sensed : Sensed) (heard : List Heard) (p : RoundPlan) : Type 0 where
+pub record IsPlanned (net : Net) (node : ℕ) (old : List Green) (sensed : Sensed) (heard : List Heard)
+    (p : RoundPlan) : Type 0 where
   pub head : Head
   pub platoons : List (List Platoon)
   pub stands : head_at (plan_at net node) old sensed.now ≡ Some head
-  pub is : (round : ℕ) → sensed.now ≡ round * net.run.step → IsCommit net node round old sensed heard (commitment old head platoons p)
+  pub is : (round : ℕ) → sensed.now ≡ round * net.run.step
+      → IsCommit net node round old sensed heard (commitment old head platoons p)
   pub of_node : AreOfNode net node sensed.now p.window.lists
   pub phases : p.schedule.phases ≡ phases_of p.schedule.answer
-  pub served : AreNextServings (round_plan net node sensed) (cluster_lists p.window.lists) (counts_of (cluster_lists p.window.lists)) head p.schedule.phases p.schedule.served
+  pub served : AreNextServings (round_plan net node sensed) (cluster_lists p.window.lists)
+      (counts_of (cluster_lists p.window.lists)) head p.schedule.phases p.schedule.served
   pub joins : Joins old p.next
   pub line : IsNextLine (plan_at net node) head (sensed.now + net.run.look) p.next
   pub used : p.used ≡ used_of heard

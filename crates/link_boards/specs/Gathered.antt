@@ -20,7 +20,8 @@ pub record AreBoards (id : TableId) (key : Terms) (links passes : ℕ) : Type 0 
 
 -- what contracts see of a pass of a seat
 abbrev pub pass_view : TableId → View → ℕ → ℕ → PassView
-pass_view id v number left = record { boards = id; number = number; left = left; known = v.known; calls = calls_of v.entries }
+pass_view id v number left =
+    record { boards = id; number = number; left = left; known = v.known; calls = calls_of v.entries }
 
 -- a seat between two calls, with one number, and no fewer calls left than the pass says
 pub record IsPass {S : Type 0} (me : Me S View) (number left : ℕ) : Type 0 where

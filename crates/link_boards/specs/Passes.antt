@@ -45,14 +45,23 @@ fresh_passes id calls = map (fresh_at id calls) (range_with_len 0 (length calls)
 
 -- the pass after a call: one call left less, the call added, and the next stamp above the call's
 abbrev pub after_call : PassView → Call → PassView
-after_call p call = record { boards = p.boards; number = p.number; left = p.left - 1; known = call.stamp + 1; calls = p.calls ++ call ∷ [] }
+after_call p call =
+    record {
+      boards = p.boards;
+      number = p.number;
+      left = p.left - 1;
+      known = call.stamp + 1;
+      calls = p.calls ++ call ∷ [];
+    }
 
 -- the call of a reading that answered this, and of a publishing of this forecast that did
 abbrev pub call_of_read : ℕ → Seen → Call
-call_of_read link seen = record { link = link; stamp = seen.stamp; publishes = false; version = seen.version; forecast = seen.forecast }
+call_of_read link seen =
+    record { link = link; stamp = seen.stamp; publishes = false; version = seen.version; forecast = seen.forecast }
 
 abbrev pub call_of_publish : ℕ → Sent → List Row → Call
-call_of_publish link sent f = record { link = link; stamp = sent.stamp; publishes = true; version = sent.version; forecast = f }
+call_of_publish link sent f =
+    record { link = link; stamp = sent.stamp; publishes = true; version = sent.version; forecast = f }
 
 -- what a reading tells: the stamp is above all that the pass knew, and the call is added. The version is no older than
 -- those in the pass's own calls at the link, and has the forecast of one that is the same
@@ -75,7 +84,8 @@ highest [] = 0
 highest (p ∷ ps) = max p.known (highest ps)
 
 abbrev pub raised : ℕ → PassView → PassView
-raised known p = record { boards = p.boards; number = p.number; left = p.left; known = max p.known known; calls = p.calls }
+raised known p =
+    record { boards = p.boards; number = p.number; left = p.left; known = max p.known known; calls = p.calls }
 
 -- the passes are all passes of the boards, by number
 pub record AreAllPasses (boards : BoardsView) (passes : List PassView) : Type 0 where

@@ -43,7 +43,9 @@ module _ {S : Type 0} where
     -- the word was 0: the call is in flight, undrawn, and the slot came into the hand, with the log that the link stands
     -- for. Or nothing changed
     abbrev pub Takes : ℕ → Hand S → Hand S → Bool → Type 0
-    Takes link m n true = (slot : S) × (log : List BoardEvent) × stands slot log × (n ≡ (flying m.0 (Some (flight link false log)), (link, slot) ∷ m.1))
+    Takes link m n true =
+        (slot : S) × (log : List BoardEvent) × stands slot log
+        × (n ≡ (flying m.0 (Some (flight link false log)), (link, slot) ∷ m.1))
     Takes link m n false = n ≡ m
 
     abbrev pub takes_turn : Step S → Hand S → ℕ → Hand S → Type 0

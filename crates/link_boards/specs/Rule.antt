@@ -46,7 +46,8 @@ pub record IsDealing (terms : Terms) (owner : ℕ → Option ℕ) (history : ℕ
   pub unmade : (number : ℕ) → made ≤ number → IsUnmade owner history number
 
 -- what a seat knows holds
-pub record IsSeated (terms : Terms) (words : List ℕ) (logs : ℕ → List BoardEvent) (owner : ℕ → Option ℕ) (history : ℕ → List Call) (seat : ℕ) (v : View) : Type 0 where
+pub record IsSeated (terms : Terms) (words : List ℕ) (logs : ℕ → List BoardEvent) (owner : ℕ → Option ℕ)
+    (history : ℕ → List Call) (seat : ℕ) (v : View) : Type 0 where
   pub known : v.known ≤ slice_index words 0
   pub owns : All (Owns owner history seat) v.entries
   pub flies : (f : Flight) → v.flight ≡ Some f → IsFlying words logs v.entries f
@@ -56,8 +57,11 @@ pub record IsSeated (terms : Terms) (words : List ℕ) (logs : ℕ → List Boar
 module _ {S : Type 0} (stands : S → List BoardEvent → Type 0) where
   -- where no seat has the turn, the slot is at home with the log that the link stands for; else a seat has it
   pub record IsLinked (s : State S View) (log : List BoardEvent) (link : ℕ) : Type 0 where
-    pub free : slice_index s.words (link + 1) ≡ 0 → (slot : S) × (get_elem? s.homes link ≡ some (some slot)) × stands slot log
-    pub taken : slice_index s.words (link + 1) ≢ 0 → (seat : ℕ) × (v : View) × (f : Flight) × (get_elem? s.views seat ≡ some v) × (v.flight ≡ Some f) × (f.link ≡ link)
+    pub free : slice_index s.words (link + 1) ≡ 0
+        → (slot : S) × (get_elem? s.homes link ≡ some (some slot)) × stands slot log
+    pub taken : slice_index s.words (link + 1) ≢ 0
+        → (seat : ℕ) × (v : View) × (f : Flight) × (get_elem? s.views seat ≡ some v) × (v.flight ≡ Some f)
+        × (f.link ≡ link)
 
   -- a link stands for one log, a number for one seat, and each number has made these calls
   pub record Holds (terms : Terms) (s : State S View) : Type 0 where
@@ -68,6 +72,7 @@ module _ {S : Type 0} (stands : S → List BoardEvent → Type 0) where
     pub unlinked : (link : ℕ) → length s.homes ≤ link → logs link ≡ []
     pub wide : length s.words ≡ length s.homes + 1
     pub counted : slice_index s.words 0 + total (λ v. v.left) s.views ≡ most_versions
-    pub seats : (seat : ℕ) (v : View) → get_elem? s.views seat ≡ some v → IsSeated terms s.words logs owner history seat v
+    pub seats : (seat : ℕ) (v : View) → get_elem? s.views seat ≡ some v
+        → IsSeated terms s.words logs owner history seat v
     pub links : (link : ℕ) → link < length s.homes → IsLinked s (logs link) link
     pub logged : (link : ℕ) → IsLogged (slice_index s.words 0) history link (logs link)

@@ -59,28 +59,44 @@ drew v stamp call after = record {
 
 -- the calls that draw at a link with these events: a reading of the newest version, and a publishing of the next one
 abbrev pub read_call : ℕ → ℕ → List BoardEvent → Call
-read_call link stamp events = record { link = link; stamp = stamp; publishes = false; version = version_of events; forecast = newest events }
+read_call link stamp events =
+    record { link = link; stamp = stamp; publishes = false; version = version_of events; forecast = newest events }
 
 abbrev pub publish_call : ℕ → ℕ → List BoardEvent → List Row → Call
-publish_call link stamp events forecast = record { link = link; stamp = stamp; publishes = true; version = version_of events + 1; forecast = forecast }
+publish_call link stamp events forecast =
+    record { link = link; stamp = stamp; publishes = true; version = version_of events + 1; forecast = forecast }
 
 -- the view after the draw of a reading, and of a publishing
 abbrev pub drew_read : View → ℕ → View
-drew_read v stamp = drew v stamp (read_call (link_in v.flight) stamp (events_in v.flight)) (after_read (events_in v.flight) stamp (number_of v.entries))
+drew_read v stamp =
+    drew v stamp (read_call (link_in v.flight) stamp (events_in v.flight))
+    (after_read (events_in v.flight) stamp (number_of v.entries))
 
 abbrev pub drew_publish : List Row → View → ℕ → View
-drew_publish forecast v stamp = drew v stamp (publish_call (link_in v.flight) stamp (events_in v.flight) forecast) (after_publish (events_in v.flight) stamp (number_of v.entries) forecast)
+drew_publish forecast v stamp =
+    drew v stamp (publish_call (link_in v.flight) stamp (events_in v.flight) forecast)
+    (after_publish (events_in v.flight) stamp (number_of v.entries) forecast)
 
 -- the first view: pass 0, which makes the others, and has all calls that are left
 abbrev pub first_view : Terms → View
-first_view terms = record { known = 0; left = most_versions; entries = entry 0 [] ∷ []; flight = None; deals = true; made = 1 }
+first_view terms =
+    record { known = 0; left = most_versions; entries = entry 0 [] ∷ []; flight = None; deals = true; made = 1 }
 
 -- pass 0 after a pass with these calls was made, and that pass
 abbrev pub dealt : ℕ → View → View
-dealt calls v = record { known = v.known; left = v.left - calls; entries = v.entries; flight = v.flight; deals = v.deals; made = v.made + 1 }
+dealt calls v =
+    record {
+      known = v.known;
+      left = v.left - calls;
+      entries = v.entries;
+      flight = v.flight;
+      deals = v.deals;
+      made = v.made + 1;
+    }
 
 abbrev pub newcomer : ℕ → View → View
-newcomer calls v = record { known = 0; left = calls; entries = entry v.made [] ∷ []; flight = None; deals = false; made = 0 }
+newcomer calls v =
+    record { known = 0; left = calls; entries = entry v.made [] ∷ []; flight = None; deals = false; made = 0 }
 
 -- a courier of what the view knows
 abbrev pub courier : View → View
@@ -92,8 +108,24 @@ spent = record { known = 0; left = 0; entries = []; flight = None; deals = false
 
 -- the view that heard what the other knows
 abbrev pub informed : View → View → View
-informed v w = record { known = max v.known w.known; left = v.left; entries = v.entries; flight = v.flight; deals = v.deals; made = v.made }
+informed v w =
+    record {
+      known = max v.known w.known;
+      left = v.left;
+      entries = v.entries;
+      flight = v.flight;
+      deals = v.deals;
+      made = v.made;
+    }
 
 -- the view that took in an ended pass
 abbrev pub ended : View → View → View
-ended v w = record { known = v.known; left = v.left + w.left; entries = v.entries ++ w.entries; flight = v.flight; deals = v.deals; made = v.made }
+ended v w =
+    record {
+      known = v.known;
+      left = v.left + w.left;
+      entries = v.entries ++ w.entries;
+      flight = v.flight;
+      deals = v.deals;
+      made = v.made;
+    }

@@ -43,7 +43,8 @@ Checks fact why (Err fault) = IsBoundAt why fault
 -- names were added in order, where no two are the same; otherwise the first that comes again is named, at its place
 abbrev pub AreAdded : Section → List (List ℕ) → List (List ℕ) → Result (Unit {0}) NetFault → Type 0
 AreAdded part names new (Ok _) = (new ≡ names) × AreDistinct names
-AreAdded part names new (Err fault) = IsTwiceAt (λ place. (place.part ≡ part) × (place.sub ≡ 0) × FromOne (IsFirstTwice names) place.item) fault
+AreAdded part names new (Err fault) =
+    IsTwiceAt (λ place. (place.part ≡ part) × (place.sub ≡ 0) × FromOne (IsFirstTwice names) place.item) fault
 
 -- what was made, seen by `view`, is what the names stand for; otherwise a place is named where `why` holds
 abbrev pub Makes : {X Y : Type 0} → (X → Y) → Result X NetFault → Option Y → (Place → Type 0) → Type 0

@@ -37,4 +37,16 @@ greens_of links nodes = do
 
 -- the network of a draft with these lists
 abbrev pub net_with : Draft → List (List (List ℕ)) → List (List (List ℕ)) → Lists → Net
-net_with d phase_links also_links lists = record { run = d.run; node_names = node_names d; plans = lists.plans.items; phase_links = phase_links; also_links = also_links; link_names = link_names d; links = lists.roads.links.items; turns = lists.roads.turns.items; yields = lists.roads.yields.items; conflicts = lists.conflicts.items }
+net_with d phase_links also_links lists =
+    record {
+      run = d.run;
+      node_names = node_names d;
+      plans = lists.plans.items;
+      phase_links = phase_links;
+      also_links = also_links;
+      link_names = link_names d;
+      links = lists.roads.links.items;
+      turns = lists.roads.turns.items;
+      yields = lists.roads.yields.items;
+      conflicts = lists.conflicts.items;
+    }

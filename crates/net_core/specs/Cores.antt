@@ -29,7 +29,8 @@ wanted_step (Some (steps.Publish link)) = Publish link
 pub record IsWanted (net : Net) (history : List ℕ) (node : ℕ) (want : Want) : Type 0 where
   pub done : ℕ
   pub way : IsUnderWay (board_steps net) net.run.rounds done history
-  pub is : want ≡ (if done == net.run.rounds then Done else wanted_step (slice_get (board_steps net node) (count node way.part)))
+  pub is : want
+      ≡ (if done == net.run.rounds then Done else wanted_step (slice_get (board_steps net node) (count node way.part)))
 
 -- a node may do its next step: it exists, the core is not spent, and the node wants something, and this alone
 pub record MayStep (core : Course) (node : ℕ) : Type 0 where

@@ -33,7 +33,8 @@ telling_first [] = Done
 telling_first (link ∷ links) = Publish link
 
 -- A node listens in a round: it has done `done` readings, and has yet to commit.
-pub record Listens (net : Net) (arrivals : Amounts) (heard : ℕ → ℕ → List Heard) (made : ℕ → ℕ → Commitment) (round done node : ℕ) (a : Acting) : Type 0 where
+pub record Listens (net : Net) (arrivals : Amounts) (heard : ℕ → ℕ → List Heard) (made : ℕ → ℕ → Commitment)
+    (round done node : ℕ) (a : Acting) : Type 0 where
   pub node_is : a.node ≡ node
   pub round_is : a.round ≡ round
   pub sensed : a.sensed ≡ sensed_in net (arriving_of arrivals) made round node
@@ -45,7 +46,8 @@ pub record Listens (net : Net) (arrivals : Amounts) (heard : ℕ → ℕ → Lis
   pub records : a.records ≡ []
 
 -- It hears: readings are left to it.
-pub record Hears (net : Net) (arrivals : Amounts) (heard : ℕ → ℕ → List Heard) (made : ℕ → ℕ → Commitment) (round done node : ℕ) (a : Acting) : Type 0 where
+pub record Hears (net : Net) (arrivals : Amounts) (heard : ℕ → ℕ → List Heard) (made : ℕ → ℕ → Commitment)
+    (round done node : ℕ) (a : Acting) : Type 0 where
   pub more : done < length (heard_links net node)
   pub listens : Listens net arrivals heard made round done node a
 
@@ -57,7 +59,8 @@ pub record TellsOf (net : Net) (round : ℕ) (c : Commitment) (a : Acting) : Typ
   pub served : a.served ≡ c.served
 
 -- It tells: it has committed, and has what it planned as long as it wants to publish.
-pub record Tells (net : Net) (arrivals : Amounts) (heard : ℕ → ℕ → List Heard) (made : ℕ → ℕ → Commitment) (round done node : ℕ) (a : Acting) : Type 0 where
+pub record Tells (net : Net) (arrivals : Amounts) (heard : ℕ → ℕ → List Heard) (made : ℕ → ℕ → Commitment)
+    (round done node : ℕ) (a : Acting) : Type 0 where
   pub enough : length (heard_links net node) ≤ done
   pub commits : Commits net (arriving_of arrivals) heard made round node
   pub tells_of : (link : ℕ) → a.want ≡ Publish link → TellsOf net round (made round node) a
@@ -67,7 +70,8 @@ pub record Tells (net : Net) (arrivals : Amounts) (heard : ℕ → ℕ → List 
   pub records : a.records ≡ record_of node round (heard round node) (made round node) ∷ []
 
 -- how far a node is in a round
-pub record Plays (net : Net) (arrivals : Amounts) (heard : ℕ → ℕ → List Heard) (made : ℕ → ℕ → Commitment) (round done node : ℕ) (a : Acting) : Type 0 where
+pub record Plays (net : Net) (arrivals : Amounts) (heard : ℕ → ℕ → List Heard) (made : ℕ → ℕ → Commitment)
+    (round done node : ℕ) (a : Acting) : Type 0 where
   pub node_is : a.node ≡ node
   pub of : IsOf net a
   pub stage : Hears net arrivals heard made round done node a ⊎ Tells net arrivals heard made round done node a
@@ -75,12 +79,16 @@ pub record Plays (net : Net) (arrivals : Amounts) (heard : ℕ → ℕ → List 
 -- There is a board for each link; that of a link between two nodes has its newest version, and the forecast of that version.
 pub record HasBoards (net : Net) (made : ℕ → ℕ → Commitment) (history : List ℕ) (boards : List Board) : Type 0 where
   pub all : length boards ≡ length net.link_names
-  pub versions : (link from to : ℕ) (d : Board) → (link_at net link).from ≡ Some from → (link_at net link).to ≡ Some to → (slice_index_or boards link d).version ≡ version_at (board_steps net) history link (length history)
-  pub forecasts : (link from to : ℕ) (d : Board) → (link_at net link).from ≡ Some from → (link_at net link).to ≡ Some to → (slice_index_or boards link d).forecast ≡ forecast_at net made link (version_at (board_steps net) history link (length history))
+  pub versions : (link from to : ℕ) (d : Board) → (link_at net link).from ≡ Some from → (link_at net link).to ≡ Some to
+      → (slice_index_or boards link d).version ≡ version_at (board_steps net) history link (length history)
+  pub forecasts : (link from to : ℕ) (d : Board) → (link_at net link).from ≡ Some from → (link_at net link).to ≡ Some to
+      → (slice_index_or boards link d).forecast
+      ≡ forecast_at net made link (version_at (board_steps net) history link (length history))
 
 -- What holds of a run whose first rounds are done, whatever its nodes do in the next: their commits, what was heard along the
 -- history, the boards, the world at the begin of the next round, and the plans of the rounds that are done.
-pub record IsRunning (net : Net) (arrivals : Amounts) (heard : ℕ → ℕ → List Heard) (made : ℕ → ℕ → Commitment) (history : List ℕ) (done : ℕ) (boards : List Board) (world : WorldState) (plans : List PlanRecord) : Type 0 where
+pub record IsRunning (net : Net) (arrivals : Amounts) (heard : ℕ → ℕ → List Heard) (made : ℕ → ℕ → Commitment)
+    (history : List ℕ) (done : ℕ) (boards : List Board) (world : WorldState) (plans : List PlanRecord) : Type 0 where
   pub commits : AllCommit net (arriving_of arrivals) heard made done
   pub along : HearAlong net history heard made
   pub boards_are : HasBoards net made history boards
@@ -89,7 +97,8 @@ pub record IsRunning (net : Net) (arrivals : Amounts) (heard : ℕ → ℕ → L
   pub planned : plans ≡ plans_of net heard made done
 
 -- Within a round: `round` rounds are done, and of the next one a part; each node has played as much of it as it stands in it.
-pub record InRound (net : Net) (arrivals : Amounts) (history : List ℕ) (round : ℕ) (actors : List Acting) (boards : List Board) (world : WorldState) (plans : List PlanRecord) : Type 0 where
+pub record InRound (net : Net) (arrivals : Amounts) (history : List ℕ) (round : ℕ) (actors : List Acting)
+    (boards : List Board) (world : WorldState) (plans : List PlanRecord) : Type 0 where
   pub heard : ℕ → ℕ → List Heard
   pub made : ℕ → ℕ → Commitment
   pub early : List ℕ
@@ -101,10 +110,12 @@ pub record InRound (net : Net) (arrivals : Amounts) (history : List ℕ) (round 
   pub running : IsRunning net arrivals heard made history round boards world plans
   pub all : length actors ≡ length net.node_names
   pub fresh : (later node : ℕ) → round < later → heard later node ≡ []
-  pub plays : (node : ℕ) (d : Acting) → node < length net.node_names → Plays net arrivals heard made round (count node part) node (slice_index_or actors node d)
+  pub plays : (node : ℕ) (d : Acting) → node < length net.node_names
+      → Plays net arrivals heard made round (count node part) node (slice_index_or actors node d)
 
 -- Between two rounds: `round` are done, and each node rests.
-pub record Between (net : Net) (arrivals : Amounts) (history : List ℕ) (round : ℕ) (actors : List Acting) (boards : List Board) (world : WorldState) (plans : List PlanRecord) : Type 0 where
+pub record Between (net : Net) (arrivals : Amounts) (history : List ℕ) (round : ℕ) (actors : List Acting)
+    (boards : List Board) (world : WorldState) (plans : List PlanRecord) : Type 0 where
   pub heard : ℕ → ℕ → List Heard
   pub made : ℕ → ℕ → Commitment
   pub rounds_done : HasRounds (board_steps net) round history
@@ -112,10 +123,12 @@ pub record Between (net : Net) (arrivals : Amounts) (history : List ℕ) (round 
   pub running : IsRunning net arrivals heard made history round boards world plans
   pub all : length actors ≡ length net.node_names
   pub fresh : (later node : ℕ) → round ≤ later → heard later node ≡ []
-  pub rests : (node : ℕ) (d : Acting) → node < length net.node_names → Rests net made round node (slice_index_or actors node d)
+  pub rests : (node : ℕ) (d : Acting) → node < length net.node_names
+      → Rests net made round node (slice_index_or actors node d)
 
 -- A round begins: the nodes before this one have begun it, and the others rest.
-pub record Begins (net : Net) (arrivals : Amounts) (history : List ℕ) (round : ℕ) (actors : List Acting) (boards : List Board) (world : WorldState) (plans : List PlanRecord) (first : ℕ) : Type 0 where
+pub record Begins (net : Net) (arrivals : Amounts) (history : List ℕ) (round : ℕ) (actors : List Acting)
+    (boards : List Board) (world : WorldState) (plans : List PlanRecord) (first : ℕ) : Type 0 where
   pub heard : ℕ → ℕ → List Heard
   pub made : ℕ → ℕ → Commitment
   pub rounds_done : HasRounds (board_steps net) round history
@@ -123,8 +136,10 @@ pub record Begins (net : Net) (arrivals : Amounts) (history : List ℕ) (round :
   pub running : IsRunning net arrivals heard made history round boards world plans
   pub all : length actors ≡ length net.node_names
   pub fresh : (later node : ℕ) → round ≤ later → heard later node ≡ []
-  pub plays : (node : ℕ) (d : Acting) → node < first → node < length net.node_names → Plays net arrivals heard made round 0 node (slice_index_or actors node d)
-  pub rests : (node : ℕ) (d : Acting) → first ≤ node → node < length net.node_names → Rests net made round node (slice_index_or actors node d)
+  pub plays : (node : ℕ) (d : Acting) → node < first → node < length net.node_names
+      → Plays net arrivals heard made round 0 node (slice_index_or actors node d)
+  pub rests : (node : ℕ) (d : Acting) → first ≤ node → node < length net.node_names
+      → Rests net made round node (slice_index_or actors node d)
 
 -- some node wants something
 pub record IsOpen (actors : List Acting) : Type 0 where
@@ -140,17 +155,22 @@ AllDone actors = (node : ℕ) (d : Acting) → node < length actors → (slice_i
 
 -- what is so of the parts of a run: within a round, between two, and as one begins
 abbrev pub AreInRound : Net → Amounts → List ℕ → List PlanRecord → Parts → Type 0
-AreInRound net arrivals history plans p = InRound net arrivals history p.round p.actors.all.items p.boards.items p.world plans
+AreInRound net arrivals history plans p =
+    InRound net arrivals history p.round p.actors.all.items p.boards.items p.world plans
 
 abbrev pub AreBetween : Net → Amounts → List ℕ → List PlanRecord → Parts → Type 0
-AreBetween net arrivals history plans p = Between net arrivals history p.round p.actors.all.items p.boards.items p.world plans
+AreBetween net arrivals history plans p =
+    Between net arrivals history p.round p.actors.all.items p.boards.items p.world plans
 
 abbrev pub AreBeginning : Net → Amounts → List ℕ → List PlanRecord → Parts → ℕ → Type 0
-AreBeginning net arrivals history plans p first = Begins net arrivals history p.round p.actors.all.items p.boards.items p.world plans first
+AreBeginning net arrivals history plans p first =
+    Begins net arrivals history p.round p.actors.all.items p.boards.items p.world plans first
 
 -- between two steps of a run: within a round in which some node wants something, or after the last round
 abbrev pub AreGoing : Net → Amounts → List ℕ → List PlanRecord → Parts → Type 0
-AreGoing net arrivals history plans p = (AreInRound net arrivals history plans p × IsOpen p.actors.all.items) ⊎ (AreBetween net arrivals history plans p × (p.round ≡ net.run.rounds))
+AreGoing net arrivals history plans p =
+    (AreInRound net arrivals history plans p × IsOpen p.actors.all.items)
+    ⊎ (AreBetween net arrivals history plans p × (p.round ≡ net.run.rounds))
 
 -- the parts are within a round, between two, or as one begins, after some history, which need not be kept
 abbrev pub ArePlaying : Net → Amounts → Parts → Type 0
@@ -160,7 +180,8 @@ abbrev pub AreResting : Net → Amounts → Parts → Type 0
 AreResting net arrivals p = (history : List ℕ) × (plans : List PlanRecord) × AreBetween net arrivals history plans p
 
 abbrev pub AreStarting : Net → Amounts → Parts → ℕ → Type 0
-AreStarting net arrivals p first = (history : List ℕ) × (plans : List PlanRecord) × AreBeginning net arrivals history plans p first
+AreStarting net arrivals p first =
+    (history : List ℕ) × (plans : List PlanRecord) × AreBeginning net arrivals history plans p first
 
 -- a node wants this, or something
 abbrev pub Wants : Parts → ℕ → Want → Type 0
@@ -222,7 +243,8 @@ pub record IsSound (net : Net) (arrivals : Amounts) (p : Parts) (kept : Kept) (s
   pub going : spent ≡ false → IsGoing net arrivals p kept
 
 -- and with the lists for the timelines and totals of its record
-pub record IsReady (net : Net) (arrivals : Amounts) (p : Parts) (kept : Kept) (spent : Bool) (empty : EmptyRecord) : Type 0 where
+pub record IsReady (net : Net) (arrivals : Amounts) (p : Parts) (kept : Kept) (spent : Bool)
+    (empty : EmptyRecord) : Type 0 where
   pub sound : IsSound net arrivals p kept spent
   pub capacity : HasCapacity net empty
 
@@ -233,13 +255,15 @@ abbrev pub turns_of : Net → ℕ → List ℕ
 turns_of net rounds = concat (replicate rounds (turns (board_steps net) (length net.node_names)))
 
 -- within a round after this history, in which a node has done as many rounds as are done, and nothing of this one
-pub record IsUnbegun (net : Net) (arrivals : Amounts) (node : ℕ) (history : List ℕ) (plans : List PlanRecord) (p : Parts) : Type 0 where
+pub record IsUnbegun (net : Net) (arrivals : Amounts) (node : ℕ) (history : List ℕ) (plans : List PlanRecord)
+    (p : Parts) : Type 0 where
   pub in_round : AreInRound net arrivals history plans p
   pub counted : count node history ≡ p.round * length (board_steps net node)
 
 -- the turn of a node comes, after some history, which need not be kept
 abbrev pub IsAtTurn : Net → Amounts → ℕ → Parts → Type 0
-IsAtTurn net arrivals node p = (history : List ℕ) × (plans : List PlanRecord) × IsUnbegun net arrivals node history plans p
+IsAtTurn net arrivals node p =
+    (history : List ℕ) × (plans : List PlanRecord) × IsUnbegun net arrivals node history plans p
 
 -- A list that is empty, with capacity for a plan of each node.
 pub record IsBlank (net : Net) (planned : Vec PlanRecord) : Type 0 where

@@ -24,11 +24,22 @@ AreNumbers names numbers = All (λ number. number < length names) numbers
 
 -- a phase of a plan, with the names of its links
 abbrev pub phase_by_names : List (List ℕ) → List Phase → List (List ℕ) → List (List ℕ) → ℕ → DraftPhase
-phase_by_names names plan lists also k = record { phase = phase_at plan k; links = map (name_in names) (slice_index_or lists k []); also = map (name_in names) (slice_index_or also k []) }
+phase_by_names names plan lists also k =
+    record {
+      phase = phase_at plan k;
+      links = map (name_in names) (slice_index_or lists k []);
+      also = map (name_in names) (slice_index_or also k []);
+    }
 
 -- the node with this number, in a file of version 3 or of another one
 unfoldable pub node_by_names : Net → Bool → ℕ → DraftNode
-node_by_names net third n = record { name = name_in net.node_names n; free_ring = third; phases = map (phase_by_names net.link_names (plan_at net n) (phases_at net n) (also_at net n)) (range_with_len 0 (length (plan_at net n))) }
+node_by_names net third n =
+    record {
+      name = name_in net.node_names n;
+      free_ring = third;
+      phases = map (phase_by_names net.link_names (plan_at net n) (phases_at net n) (also_at net n))
+          (range_with_len 0 (length (plan_at net n)));
+    }
 
 -- a turn
 abbrev pub turn_by_names : List (List ℕ) → Turn → DraftTurn

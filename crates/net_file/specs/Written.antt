@@ -37,7 +37,8 @@ abbrev pub Always : {X : Type 0} → ℕ → X → Type 0
 Always version x = Unit {0}
 
 -- the data is read as this, in each version in which that can be, and its depth is at most `deep`
-pub record IsDataOf {X : Type 0} (f : ℕ → Data → Option X) (says : ℕ → X → Type 0) (deep : ℕ) (d : Data) (x : X) : Type 0 where
+pub record IsDataOf {X : Type 0} (f : ℕ → Data → Option X) (says : ℕ → X → Type 0) (deep : ℕ) (d : Data)
+    (x : X) : Type 0 where
   pub read : (version : ℕ) → says version x → f version d ≡ Some x
   pub depth : depth d ≤ deep
 
@@ -46,7 +47,8 @@ abbrev pub IsFilledWith : {X : Type 0} → (ℕ → Data → Option X) → (ℕ 
 IsFilledWith f says deep x old new = old ≡ no_members → IsDataOf f says deep (table new) x
 
 -- the items of an array are read as these, in each version in which these can be, and their depth is at most `deep`
-pub record AreItemsOf {X : Type 0} (f : ℕ → Data → Option X) (says : ℕ → X → Type 0) (deep : ℕ) (ds : Items) (xs : List X) : Type 0 where
+pub record AreItemsOf {X : Type 0} (f : ℕ → Data → Option X) (says : ℕ → X → Type 0) (deep : ℕ) (ds : Items)
+    (xs : List X) : Type 0 where
   pub read : (version : ℕ) → All (says version) xs → each (f version) (list_of ds) ≡ Some xs
   pub depth : items_depth ds ≤ deep
 
@@ -78,13 +80,15 @@ abbrev pub HasFlagIfTrue : List ℕ → Bool → Members → Members → Type 0
 HasFlagIfTrue key flag old new = new ≡ with_optional key (flag_data flag) old
 
 -- data that is read as this was put at a key
-pub record HasData {X : Type 0} (f : ℕ → Data → Option X) (says : ℕ → X → Type 0) (deep : ℕ) (key : List ℕ) (x : X) (old new : Members) : Type 0 where
+pub record HasData {X : Type 0} (f : ℕ → Data → Option X) (says : ℕ → X → Type 0) (deep : ℕ) (key : List ℕ) (x : X)
+    (old new : Members) : Type 0 where
   pub data_of : Data
   pub reads : IsDataOf f says deep data_of x
   pub is : new ≡ with_member key data_of old
 
 -- an array of these was put at a key
-pub record HasItems {X : Type 0} (f : ℕ → Data → Option X) (says : ℕ → X → Type 0) (deep : ℕ) (key : List ℕ) (xs : List X) (old new : Members) : Type 0 where
+pub record HasItems {X : Type 0} (f : ℕ → Data → Option X) (says : ℕ → X → Type 0) (deep : ℕ) (key : List ℕ)
+    (xs : List X) (old new : Members) : Type 0 where
   pub items : Items
   pub are : AreItemsOf f says deep items xs
   pub is : new ≡ with_member key (array items) old
@@ -95,7 +99,8 @@ items_if None = no_items
 items_if (Some ds) = ds
 
 -- an array of these was put at a key, or none where there are none
-pub record HasItemsIfAny {X : Type 0} (f : ℕ → Data → Option X) (says : ℕ → X → Type 0) (deep : ℕ) (key : List ℕ) (xs : List X) (old new : Members) : Type 0 where
+pub record HasItemsIfAny {X : Type 0} (f : ℕ → Data → Option X) (says : ℕ → X → Type 0) (deep : ℕ) (key : List ℕ)
+    (xs : List X) (old new : Members) : Type 0 where
   pub items : Option Items
   pub are : AreItemsOf f says deep (items_if items) xs
   pub none : xs ≡ [] → items ≡ None
@@ -104,7 +109,8 @@ pub record HasItemsIfAny {X : Type 0} (f : ℕ → Data → Option X) (says : �
 -- the members with what stands of a yield, the names of whose links are these items
 abbrev pub with_yields : Items → Option DraftYield → Members → Members
 with_yields ds None ms = ms
-with_yields ds (Some given) ms = with_member (codes "yield_sat") (integer (pos given.sat)) (with_member (codes "yields") (array ds) ms)
+with_yields ds (Some given) ms =
+    with_member (codes "yield_sat") (integer (pos given.sat)) (with_member (codes "yields") (array ds) ms)
 
 -- the links to which a link gives way were put, and its discharge then, where there are any
 pub record HasYields (given : Option DraftYield) (old new : Members) : Type 0 where
@@ -117,7 +123,8 @@ pub record HasYields (given : Option DraftYield) (old new : Members) : Type 0 wh
 -- the members with what stands of a walk
 abbrev pub with_walk : Option Walk → Members → Members
 with_walk None ms = ms
-with_walk (Some walk) ms = with_member (codes "cross") (integer (pos walk.cross)) (with_member (codes "walk") (integer (pos walk.seconds)) ms)
+with_walk (Some walk) ms =
+    with_member (codes "cross") (integer (pos walk.cross)) (with_member (codes "walk") (integer (pos walk.seconds)) ms)
 
 -- a walk was put, where there is one
 pub record HasWalk (walk : Option Walk) (old new : Members) : Type 0 where

@@ -31,10 +31,16 @@ IsLinkFault l _ sub = ⊥
 abbrev pub IsBoundFault : Draft → Section → ℕ → ℕ → Type 0
 IsBoundFault d Top item sub = (item ≡ 0) × (sub ≡ 0) × ¬ HasCounts d
 IsBoundFault d Run item sub = (item ≡ 0) × (sub ≡ 0) × HasCounts d × ¬ HasRun d
-IsBoundFault d Node item sub = HasCounts d × HasRun d × FromOne (IsFirstAt IsBoundedNode (λ n. IsNodeFault n Node sub) d.nodes) item
-IsBoundFault d Phase item sub = HasCounts d × HasRun d × FromOne (IsFirstAt IsBoundedNode (λ n. IsNodeFault n Phase sub) d.nodes) item
-IsBoundFault d Link item sub = HasCounts d × HasRun d × All IsBoundedNode d.nodes × FromOne (IsFirstAt IsBoundedLink (λ l. IsLinkFault l Link sub) d.links) item
-IsBoundFault d Turn item sub = HasCounts d × HasRun d × All IsBoundedNode d.nodes × FromOne (IsFirstAt IsBoundedLink (λ l. IsLinkFault l Turn sub) d.links) item
+IsBoundFault d Node item sub =
+    HasCounts d × HasRun d × FromOne (IsFirstAt IsBoundedNode (λ n. IsNodeFault n Node sub) d.nodes) item
+IsBoundFault d Phase item sub =
+    HasCounts d × HasRun d × FromOne (IsFirstAt IsBoundedNode (λ n. IsNodeFault n Phase sub) d.nodes) item
+IsBoundFault d Link item sub =
+    HasCounts d × HasRun d × All IsBoundedNode d.nodes
+    × FromOne (IsFirstAt IsBoundedLink (λ l. IsLinkFault l Link sub) d.links) item
+IsBoundFault d Turn item sub =
+    HasCounts d × HasRun d × All IsBoundedNode d.nodes
+    × FromOne (IsFirstAt IsBoundedLink (λ l. IsLinkFault l Turn sub) d.links) item
 IsBoundFault d Conflict item sub = ⊥
 
 -- why a draft is out of bounds
@@ -95,19 +101,23 @@ IsUnknownInNode links n sub = FromOne (IsFirstNot (IsKnownPhase links) n.phases)
 -- the first fault of a link: one of its ends is no node or it gives way to no link, or else its first turn into no link
 abbrev pub IsUnknownInLink : List (List ℕ) → List (List ℕ) → DraftLink → Section → ℕ → Type 0
 IsUnknownInLink nodes links l Link sub = (sub ≡ 0) × ¬ HasKnownNames nodes links l
-IsUnknownInLink nodes links l Turn sub = HasKnownNames nodes links l × FromOne (IsFirstNot (IsKnownTurn links) l.turns) sub
+IsUnknownInLink nodes links l Turn sub =
+    HasKnownNames nodes links l × FromOne (IsFirstNot (IsKnownTurn links) l.turns) sub
 IsUnknownInLink nodes links l _ sub = ⊥
 
 -- the first place of a draft that uses a name which stands for nothing: all phases come first, then each link with its
 -- turns, then conflicts
 abbrev pub IsUnknownFault : Draft → Section → ℕ → ℕ → Type 0
-IsUnknownFault d Phase item sub = FromOne (IsFirstAt (IsKnownNode (link_names d)) (λ n. IsUnknownInNode (link_names d) n sub) d.nodes) item
+IsUnknownFault d Phase item sub =
+    FromOne (IsFirstAt (IsKnownNode (link_names d)) (λ n. IsUnknownInNode (link_names d) n sub) d.nodes) item
 IsUnknownFault d Link item sub =
     All (IsKnownNode (link_names d)) d.nodes
-    × FromOne (IsFirstAt (IsKnownLink (node_names d) (link_names d)) (λ l. IsUnknownInLink (node_names d) (link_names d) l Link sub) d.links) item
+    × FromOne (IsFirstAt (IsKnownLink (node_names d) (link_names d))
+    (λ l. IsUnknownInLink (node_names d) (link_names d) l Link sub) d.links) item
 IsUnknownFault d Turn item sub =
     All (IsKnownNode (link_names d)) d.nodes
-    × FromOne (IsFirstAt (IsKnownLink (node_names d) (link_names d)) (λ l. IsUnknownInLink (node_names d) (link_names d) l Turn sub) d.links) item
+    × FromOne (IsFirstAt (IsKnownLink (node_names d) (link_names d))
+    (λ l. IsUnknownInLink (node_names d) (link_names d) l Turn sub) d.links) item
 IsUnknownFault d Conflict item sub =
     (sub ≡ 0) × All (IsKnownNode (link_names d)) d.nodes × All (IsKnownLink (node_names d) (link_names d)) d.links
     × FromOne (IsFirstNot (IsKnownConflict (link_names d)) d.conflicts) item
@@ -117,7 +127,8 @@ IsUnknownFault d _ item sub = ⊥
 abbrev pub FailsNumbers : Draft → NetFault → Type 0
 FailsNumbers d NoMemory = Unit {0}
 FailsNumbers d (Twice place) = IsTwiceFault d place.part place.item place.sub
-FailsNumbers d (Unknown place) = AreDistinct (node_names d) × AreDistinct (link_names d) × IsUnknownFault d place.part place.item place.sub
+FailsNumbers d (Unknown place) =
+    AreDistinct (node_names d) × AreDistinct (link_names d) × IsUnknownFault d place.part place.item place.sub
 FailsNumbers d _ = ⊥
 
 -- A draft can be refused with the fault. Unless it is out of memory, the fact holds.

@@ -80,7 +80,16 @@ link_of nodes links phase_links l = do
   from ← number_if nodes l.from
   to ← number_if nodes l.to
   link ← number_of links l.name
-  Some (record { from = from; to = to; travel = l.travel; sat = l.sat; weight = l.weight; phase = phase_of phase_links link to; yield_sat = yield_sat l.yields; walk = l.walk })
+  Some (record {
+    from = from;
+    to = to;
+    travel = l.travel;
+    sat = l.sat;
+    weight = l.weight;
+    phase = phase_of phase_links link to;
+    yield_sat = yield_sat l.yields;
+    walk = l.walk;
+  })
 
 -- a turn by numbers
 unfoldable pub turn_of : List (List ℕ) → DraftTurn → Option Turn
@@ -97,7 +106,8 @@ abbrev pub yields_of : List (List ℕ) → DraftLink → Option (List ℕ)
 yields_of links l = each (number_of links) (yield_names l.yields)
 
 -- the links, the turns of each, and those to which each gives way
-unfoldable pub roads_of : List (List ℕ) → List (List ℕ) → List (List (List ℕ)) → List DraftLink → Option (List Link × List (List Turn) × List (List ℕ))
+unfoldable pub roads_of : List (List ℕ) → List (List ℕ) → List (List (List ℕ)) → List DraftLink
+    → Option (List Link × List (List Turn) × List (List ℕ))
 roads_of nodes links phase_links ls = do
   roads ← each (link_of nodes links phase_links) ls
   turns ← each (turns_of links) ls
@@ -130,4 +140,15 @@ numbered d = do
   also_links ← each (also_of (link_names d)) d.nodes
   roads ← roads_of (node_names d) (link_names d) phase_links d.links
   conflicts ← each (conflict_of (link_names d)) d.conflicts
-  Some (record { run = d.run; node_names = node_names d; plans = map plan_of d.nodes; phase_links = phase_links; also_links = also_links; link_names = link_names d; links = roads.0; turns = roads.1; yields = roads.2; conflicts = conflicts })
+  Some (record {
+    run = d.run;
+    node_names = node_names d;
+    plans = map plan_of d.nodes;
+    phase_links = phase_links;
+    also_links = also_links;
+    link_names = link_names d;
+    links = roads.0;
+    turns = roads.1;
+    yields = roads.2;
+    conflicts = conflicts;
+  })

@@ -15,9 +15,11 @@ begun on x = x - green_for on x
 pub record Discharges (on : ℕ → Bool) (loss : ℕ → ℕ) (sat : ℕ) (came left : ℕ → ℕ) : Type 0 where
   pub start : left 0 ≡ 0
   pub rests : (x : ℕ) → on x ≡ false → left (suc x) ≡ left x
-  pub lost : (x : ℕ) → on x ≡ true → green_for on x < loss x → left (begun on x) < came (begun on x) → left (suc x) ≡ left x
+  pub lost : (x : ℕ) → on x ≡ true → green_for on x < loss x → left (begun on x) < came (begun on x)
+      → left (suc x) ≡ left x
   pub late : (x : ℕ) → on x ≡ true → loss x ≤ green_for on x → left (suc x) ≡ left x + min sat (came (suc x) - left x)
-  pub free : (x : ℕ) → on x ≡ true → came (begun on x) ≤ left (begun on x) → left (suc x) ≡ left x + min sat (came (suc x) - left x)
+  pub free : (x : ℕ) → on x ≡ true → came (begun on x) ≤ left (begun on x)
+      → left (suc x) ≡ left x + min sat (came (suc x) - left x)
 
 -- in each second in which a link is green by its home it is green by all its greens
 abbrev pub IsWithin : (ℕ → Bool) → (ℕ → Bool) → Type 0

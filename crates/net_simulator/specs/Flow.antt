@@ -54,12 +54,14 @@ is_busy net shown past x l = is_green net shown l x && nat_lt 0 (waiting net pas
 
 -- what a link discharges at the most in second x, where it may: `yield_sat` while a link to which it gives way is busy, else `sat`
 abbrev pub rate : Net → (ℕ → ℕ → Sign) → (ℕ → ℕ → Cumulative) → ℕ → ℕ → ℕ
-rate net shown past x l = if list_any (is_busy net shown past x) (yields_at net l) then (link_at net l).yield_sat else (link_at net l).sat
+rate net shown past x l =
+    if list_any (is_busy net shown past x) (yields_at net l) then (link_at net l).yield_sat else (link_at net l).sat
 
 -- what a link discharges in second x: all that waits, where it ends at no node
 abbrev pub discharge_to : Net → (ℕ → ℕ → Sign) → (ℕ → ℕ → Cumulative) → ℕ → ℕ → Option ℕ → ℕ
 discharge_to net shown past x l None = waiting net past x l
-discharge_to net shown past x l (Some node) = if may_go net shown past x l node then min (rate net shown past x l) (waiting net past x l) else 0
+discharge_to net shown past x l (Some node) =
+    if may_go net shown past x l node then min (rate net shown past x l) (waiting net past x l) else 0
 
 -- what a link discharges in second x, by the node where it ends
 abbrev pub discharge : Net → (ℕ → ℕ → Sign) → (ℕ → ℕ → Cumulative) → ℕ → ℕ → ℕ
@@ -67,16 +69,22 @@ discharge net shown past x l = discharge_to net shown past x l (link_at net l).t
 
 -- what enters a link in second x: what arrives, and its part of what each link discharges
 abbrev pub entered_in : Net → (ℕ → ℕ) → (ℕ → ℕ → Sign) → (ℕ → ℕ → Cumulative) → ℕ → ℕ → ℕ
-entered_in net arriving shown past x l = arriving l + total (λ k. split_of (turns_at net k) (discharge net shown past x k) l) (length net.link_names)
+entered_in net arriving shown past x l =
+    arriving l + total (λ k. split_of (turns_at net k) (discharge net shown past x k) l) (length net.link_names)
 
 -- what passed a link in the first x + 1 seconds
 abbrev pub passing : Net → (ℕ → ℕ) → (ℕ → ℕ → Sign) → (ℕ → ℕ → Cumulative) → ℕ → ℕ → Cumulative
-passing net arriving shown past x l = record { entered = (past x l).entered + entered_in net arriving shown past x l; left = (past x l).left + discharge net shown past x l }
+passing net arriving shown past x l =
+    record {
+      entered = (past x l).entered + entered_in net arriving shown past x l;
+      left = (past x l).left + discharge net shown past x l;
+    }
 
 -- The rows of what passed the links in the first 0, 1, .., x seconds, and one more, for the first x + 1 seconds. `arriving l` is
 -- what enters link l from outside in second x, and `shown y node` the sign of a node in second y.
 abbrev pub longer : Net → (ℕ → ℕ) → (ℕ → ℕ → Sign) → ℕ → List (List Cumulative) → List (List Cumulative)
-longer net arriving shown x history = history ++ map (passing net arriving shown (passed_in history) x) (range_with_len 0 (length net.link_names)) ∷ []
+longer net arriving shown x history =
+    history ++ map (passing net arriving shown (passed_in history) x) (range_with_len 0 (length net.link_names)) ∷ []
 
 -- What passed the links in the first 0, 1, .., n seconds: a row for each of these numbers, with a place for each link; the row for
 -- 0 seconds is empty. `arriving x l` is what enters link l from outside in second x, in thousandths of a vehicle; `shown x node` is

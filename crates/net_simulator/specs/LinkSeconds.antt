@@ -30,7 +30,8 @@ is_busy_by since ready x l = nat_le (slice_index since l) x && nat_lt 0 (slice_i
 
 -- what link l discharges at the most in second x, where it may
 abbrev pub rate_by : Net → List ℕ → List ℕ → ℕ → ℕ → ℕ
-rate_by net since ready x l = if list_any (is_busy_by since ready x) (yields_at net l) then (link_at net l).yield_sat else (link_at net l).sat
+rate_by net since ready x l =
+    if list_any (is_busy_by since ready x) (yields_at net l) then (link_at net l).yield_sat else (link_at net l).sat
 
 -- what waits at the end of link l: its queue, and what entered it one travel time ago
 abbrev pub waits_at : Net → List ℕ → List ℕ → ℕ → ℕ → ℕ
@@ -45,6 +46,7 @@ abbrev pub seen_by : Net → List ℕ → List ℕ → List ℕ → ℕ → ℕ 
 seen_by net queues recent standing n l = record {
   link = l;
   queue = slice_index queues l;
-  coming = map (λ i. cell recent l (n + kept_seconds - (link_at net l).travel + i)) (range_with_len 0 (link_at net l).travel);
+  coming = map (λ i. cell recent l (n + kept_seconds - (link_at net l).travel + i))
+      (range_with_len 0 (link_at net l).travel);
   stood = slice_index standing l;
 }

@@ -15,7 +15,8 @@ pub record Moves : Type 0 where
 -- what passed a link with one second more
 abbrev pub moved : Net → Moves → (ℕ → ℕ → Cumulative) → ℕ → ℕ → Cumulative
 moved net m past x l = record {
-  entered = (past x l).entered + (m.comes l + total (λ k. split_of (turns_at net k) (m.goes k) l) (length net.link_names));
+  entered = (past x l).entered
+      + (m.comes l + total (λ k. split_of (turns_at net k) (m.goes k) l) (length net.link_names));
   left = (past x l).left + m.goes l;
 }
 

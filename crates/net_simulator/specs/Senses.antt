@@ -11,7 +11,8 @@ use Rattle.net_simulator.specs.Flow.{Cumulative, queue}
 -- what reaches the end of link l in second n + i, in thousandths of a vehicle: what entered the link its time of travel before;
 -- `past m l` is what passed it in the first m seconds
 abbrev pub coming : Net → (ℕ → ℕ → Cumulative) → ℕ → ℕ → ℕ → ℕ
-coming net past n l i = (past (n + i + 1 - (link_at net l).travel) l).entered - (past (n + i - (link_at net l).travel) l).entered
+coming net past n l i =
+    (past (n + i + 1 - (link_at net l).travel) l).entered - (past (n + i - (link_at net l).travel) l).entered
 
 -- how many of the seconds before second n, back from it without a break, left a queue on a link
 unfoldable pub stood : Net → (ℕ → ℕ → Cumulative) → ℕ → ℕ → ℕ

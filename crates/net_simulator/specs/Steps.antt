@@ -14,7 +14,9 @@ use Rattle.net_simulator.specs.declared.totals.LinkTotals.{LinkTotals}
 -- what link l discharges, where `ready` has what waits at the end of each link
 abbrev pub goes : Net → List Sign → List ℕ → List ℕ → List ℕ → ℕ → ℕ → Option ℕ → ℕ
 goes net signs since waits ready x l None = slice_index ready l
-goes net signs since waits ready x l (Some node) = if is_open net waits since x l node (slice_index_or signs node Dark) then min (rate_by net since ready x l) (slice_index ready l) else 0
+goes net signs since waits ready x l (Some node) =
+    if is_open net waits since x l node (slice_index_or signs node Dark)
+    then min (rate_by net since ready x l) (slice_index ready l) else 0
 
 -- what link l discharges, by the node where it ends
 abbrev pub goes_at : Net → List Sign → List ℕ → List ℕ → List ℕ → ℕ → ℕ → ℕ
@@ -30,7 +32,8 @@ all_of amounts links = total (λ l. slice_index amounts l) links
 
 -- what is counted of a link with one more second
 abbrev pub counted : LinkTotals → ℕ → ℕ → ℕ → LinkTotals
-counted t entering leaving queue = record { entered = t.entered + entering; left = t.left + leaving; delay = t.delay + queue }
+counted t entering leaving queue =
+    record { entered = t.entered + entering; left = t.left + leaving; delay = t.delay + queue }
 
 -- what the first n seconds can count
 pub record FitsSeconds (n : ℕ) (t : LinkTotals) : Type 0 where

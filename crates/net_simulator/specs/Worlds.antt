@@ -53,8 +53,10 @@ pub record HasShape (net : Net) (w : WorldState) : Type 0 where
 -- seconds, and the queues after the last 120 seconds and now.
 pub record Keeps (net : Net) (past : ℕ → ℕ → Cumulative) (qs rs ws : List ℕ) (x : ℕ) : Type 0 where
   pub queues : (l : ℕ) → l < length net.link_names → slice_index qs l ≡ queue net past x l
-  pub recent : (l d : ℕ) → l < length net.link_names → 1 ≤ d → d ≤ most_travel → cell rs l (x + kept_seconds - d) ≡ (past (x + 1 - d) l).entered - (past (x - d) l).entered
-  pub waits : (l d : ℕ) → l < length net.link_names → d ≤ most_travel → cell ws l (x + kept_seconds - d) ≡ queue net past (x - d) l
+  pub recent : (l d : ℕ) → l < length net.link_names → 1 ≤ d → d ≤ most_travel
+      → cell rs l (x + kept_seconds - d) ≡ (past (x + 1 - d) l).entered - (past (x - d) l).entered
+  pub waits : (l d : ℕ) → l < length net.link_names → d ≤ most_travel
+      → cell ws l (x + kept_seconds - d) ≡ queue net past (x - d) l
 
 -- What is kept of lights is what the nodes showed in the first x seconds: the last sign of each node, and since when each link is green.
 pub record AreShown (net : Net) (shown : ℕ → ℕ → Sign) (x : ℕ) (last : List Sign) (lit : List ℕ) : Type 0 where
@@ -66,9 +68,11 @@ pub record Stands (net : Net) (arriving : ℕ → ℕ → ℕ) (shown : ℕ → 
   pub shape : HasShape net w
   pub by : w.second ≤ most_seconds
   pub keeps : Keeps net (cumulative_under net arriving shown w.second) w.queues w.recent w.waits w.second
-  pub counts : (l : ℕ) → l < length net.link_names → counts_at w.counts l ≡ link_totals net (cumulative_under net arriving shown w.second) w.second l
+  pub counts : (l : ℕ) → l < length net.link_names
+      → counts_at w.counts l ≡ link_totals net (cumulative_under net arriving shown w.second) w.second l
   pub totals : w.totals ≡ totals net arriving (cumulative_under net arriving shown w.second) w.second
-  pub stood : (l : ℕ) → l < length net.link_names → slice_index w.stood l ≡ stood net (cumulative_under net arriving shown w.second) w.second l
+  pub stood : (l : ℕ) → l < length net.link_names
+      → slice_index w.stood l ≡ stood net (cumulative_under net arriving shown w.second) w.second l
   pub lights : AreShown net shown w.second w.signs w.since
 
 -- a world stands for this network with some arrivals and timelines

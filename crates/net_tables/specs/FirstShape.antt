@@ -43,8 +43,11 @@ IsLinkFault version d _ sub = ⊥
 abbrev pub IsFaultWithin : TopForm → Section → ℕ → ℕ → Type 0
 IsFaultWithin top Top item sub = ⊥
 IsFaultWithin top Run item sub = (item ≡ 0) × (sub ≡ 0) × (run_of top.run ≡ None)
-IsFaultWithin top Node item sub = IsSome (run_of top.run) × IsAfterRead (node_of top.version) (λ d. IsNodeFault top.version d Node sub) top.nodes item
-IsFaultWithin top Phase item sub = IsSome (run_of top.run) × IsAfterRead (node_of top.version) (λ d. IsNodeFault top.version d Phase sub) top.nodes item
+IsFaultWithin top Node item sub =
+    IsSome (run_of top.run) × IsAfterRead (node_of top.version) (λ d. IsNodeFault top.version d Node sub) top.nodes item
+IsFaultWithin top Phase item sub =
+    IsSome (run_of top.run)
+    × IsAfterRead (node_of top.version) (λ d. IsNodeFault top.version d Phase sub) top.nodes item
 IsFaultWithin top Link item sub =
     IsSome (run_of top.run) × IsSome (each (node_of top.version) top.nodes)
     × IsAfterRead (link_of top.version) (λ d. IsLinkFault top.version d Link sub) top.links item
@@ -52,7 +55,8 @@ IsFaultWithin top Turn item sub =
     IsSome (run_of top.run) × IsSome (each (node_of top.version) top.nodes)
     × IsAfterRead (link_of top.version) (λ d. IsLinkFault top.version d Turn sub) top.links item
 IsFaultWithin top Conflict item sub =
-    IsSome (run_of top.run) × IsSome (each (node_of top.version) top.nodes) × IsSome (each (link_of top.version) top.links)
+    IsSome (run_of top.run) × IsSome (each (node_of top.version) top.nodes)
+    × IsSome (each (link_of top.version) top.links)
     × (sub ≡ 0) × IsFirstUnread conflict_of top.conflicts item
 
 -- The first fault of the table of the whole file, at the place with this section, item and sub: of its own form, or else of

@@ -49,7 +49,18 @@ run_fields ms = do
   limits ← optional_numbers_at (codes "age") (codes "hold") ms
   further ← optional_numbers_at (codes "recall") (codes "act_step") ms
   rate ← optional_number_at (codes "rate") ms
-  Some (record { step = ahead.0; look = ahead.1; gap = course.0; rounds = course.1; split = split; age = limits.0; hold = limits.1; recall = further.0; act_step = further.1; rate = rate })
+  Some (record {
+    step = ahead.0;
+    look = ahead.1;
+    gap = course.0;
+    rounds = course.1;
+    split = split;
+    age = limits.0;
+    hold = limits.1;
+    recall = further.0;
+    act_step = further.1;
+    rate = rate;
+  })
 
 -- the times and the mark of a phase
 unfoldable pub phase_times : Option ℕ → Members → Option Phase
@@ -58,7 +69,15 @@ phase_times version ms = do
   change ← numbers_at (codes "yellow") (codes "clear") ms
   cost ← numbers_at (codes "loss") (codes "wait") ms
   skip ← flag_at (is_some version) (codes "skip") ms
-  Some (record { least = green.0; greatest = green.1; yellow = change.0; clear = change.1; loss = cost.0; wait = cost.1; skip = skip })
+  Some (record {
+    least = green.0;
+    greatest = green.1;
+    yellow = change.0;
+    clear = change.1;
+    loss = cost.0;
+    wait = cost.1;
+    skip = skip;
+  })
 
 -- what a phase has at its keys
 unfoldable pub phase_fields : Option ℕ → Members → Option PhaseForm
@@ -91,4 +110,14 @@ link_fields version ms = do
   yields ← yields_at ms
   walk ← walk_at ms
   turns ← optional_list_at (codes "turn") ms
-  Some (record { name = name; from = ends.0; to = ends.1; travel = numbers.0; sat = numbers.1; weight = numbers.2; yields = yields; walk = walk; turns = turns })
+  Some (record {
+    name = name;
+    from = ends.0;
+    to = ends.1;
+    travel = numbers.0;
+    sat = numbers.1;
+    weight = numbers.2;
+    yields = yields;
+    walk = walk;
+    turns = turns;
+  })

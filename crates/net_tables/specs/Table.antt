@@ -126,7 +126,9 @@ array_at key ms = array_if (get_member key ms)
 
 -- the keys of a run
 unfoldable pub run_keys : List (List ℕ)
-run_keys = codes "step" ∷ codes "look" ∷ codes "gap" ∷ codes "rounds" ∷ codes "split" ∷ codes "age" ∷ codes "hold" ∷ codes "recall" ∷ codes "act_step" ∷ codes "rate" ∷ []
+run_keys =
+    codes "step" ∷ codes "look" ∷ codes "gap" ∷ codes "rounds" ∷ codes "split" ∷ codes "age" ∷ codes "hold"
+    ∷ codes "recall" ∷ codes "act_step" ∷ codes "rate" ∷ []
 
 -- the run of a table that has its keys and no other, each of its kind, as all tables below must; `split`, `age`, `hold`,
 -- `recall`, `act_step` and `rate` may be absent in every file
@@ -143,7 +145,18 @@ run_of ms = do
   recall ← optional_number_at (codes "recall") ms
   act_step ← optional_number_at (codes "act_step") ms
   rate ← optional_number_at (codes "rate") ms
-  Some (record { step = step; look = look; gap = gap; rounds = rounds; split = split; age = age; hold = hold; recall = recall; act_step = act_step; rate = rate })
+  Some (record {
+    step = step;
+    look = look;
+    gap = gap;
+    rounds = rounds;
+    split = split;
+    age = age;
+    hold = hold;
+    recall = recall;
+    act_step = act_step;
+    rate = rate;
+  })
 
 -- whether a file says version 3, and so may name further greens of phases, yields and walks, have free rings and the counts of a
 -- great network
@@ -153,7 +166,9 @@ is_third (Some version) = version == 3
 
 -- the keys that a phase has in every file
 unfoldable pub phase_keys : List (List ℕ)
-phase_keys = codes "least" ∷ codes "greatest" ∷ codes "yellow" ∷ codes "clear" ∷ codes "loss" ∷ codes "wait" ∷ codes "links" ∷ codes "skip" ∷ []
+phase_keys =
+    codes "least" ∷ codes "greatest" ∷ codes "yellow" ∷ codes "clear" ∷ codes "loss" ∷ codes "wait" ∷ codes "links"
+    ∷ codes "skip" ∷ []
 
 -- the keys of a phase in a file of this version
 unfoldable pub phase_keys_in : Option ℕ → List (List ℕ)
@@ -179,7 +194,19 @@ phase_form version d = do
   skip ← flag_at (is_some version) (codes "skip") ms
   links ← list_at (codes "links") ms
   also ← optional_list_at (codes "also") ms
-  Some (record { phase = record { least = least; greatest = greatest; yellow = yellow; clear = clear; loss = loss; wait = wait; skip = skip }; links = links; also = also })
+  Some (record {
+    phase = record {
+      least = least;
+      greatest = greatest;
+      yellow = yellow;
+      clear = clear;
+      loss = loss;
+      wait = wait;
+      skip = skip;
+    };
+    links = links;
+    also = also;
+  })
 
 -- a phase with the names of its links
 unfoldable pub phase_of : Option ℕ → Data → Option DraftPhase
@@ -258,7 +285,9 @@ link_keys = codes "name" ∷ codes "from" ∷ codes "to" ∷ codes "travel" ∷ 
 
 -- the keys of a link in a file of this version
 unfoldable pub link_keys_in : Option ℕ → List (List ℕ)
-link_keys_in version = if is_third version then codes "yields" ∷ codes "yield_sat" ∷ codes "walk" ∷ codes "cross" ∷ link_keys else link_keys
+link_keys_in version =
+    if is_third version then codes "yields" ∷ codes "yield_sat" ∷ codes "walk" ∷ codes "cross" ∷ link_keys
+    else link_keys
 
 -- the own form of a link, in a file of this version
 unfoldable pub link_form : Option ℕ → Data → Option LinkForm
@@ -274,7 +303,17 @@ link_form version d = do
   yields ← yields_at ms
   walk ← walk_at ms
   turns ← optional_list_at (codes "turn") ms
-  Some (record { name = name; from = from; to = to; travel = travel; sat = sat; weight = weight; yields = yields; walk = walk; turns = turns })
+  Some (record {
+    name = name;
+    from = from;
+    to = to;
+    travel = travel;
+    sat = sat;
+    weight = weight;
+    yields = yields;
+    walk = walk;
+    turns = turns;
+  })
 
 -- the links to which a link gives way, by their names
 abbrev pub yield_of : Option (List Data × ℕ) → Option (Option DraftYield)
@@ -295,7 +334,17 @@ unfoldable pub link_of : Option ℕ → Data → Option DraftLink
 link_of version d = do
   own ← link_own version d
   turns ← each turn_of own.0.turns
-  Some (record { name = own.0.name; from = own.0.from; to = own.0.to; travel = own.0.travel; sat = own.0.sat; weight = own.0.weight; yields = own.1; walk = own.0.walk; turns = turns })
+  Some (record {
+    name = own.0.name;
+    from = own.0.from;
+    to = own.0.to;
+    travel = own.0.travel;
+    sat = own.0.sat;
+    weight = own.0.weight;
+    yields = own.1;
+    walk = own.0.walk;
+    turns = turns;
+  })
 
 -- a conflict
 unfoldable pub conflict_of : Data → Option DraftConflict

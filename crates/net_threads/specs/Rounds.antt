@@ -11,7 +11,8 @@ module _ {P S G Ready : Type 0} where
     pub arrivals : AreArrivals r.net.now r.arrivals.now
     pub links : r.boards.now.links ≡ length r.net.now.link_names
     pub tasks : AreTasksOf r.net.now r.boards.now r.nodes.all.items
-    pub between : Between r.net.now r.arrivals.now r.boards.now round (passes_in r.nodes.all.items) (actors_in r.nodes.all.items) r.world r.plans
+    pub between : Between r.net.now r.arrivals.now r.boards.now round (passes_in r.nodes.all.items)
+        (actors_in r.nodes.all.items) r.world r.plans
 
   -- they are still of the same network, arrivals and boards, with passes of the same numbers
   pub record AreOf (old new : Rounds P S G Ready) : Type 0 where
@@ -26,6 +27,7 @@ module _ {P S G Ready : Type 0} where
     pub count : slots ≡ length r.nodes.all.items
 
   -- all rounds are done, unless memory ran out
-  pub record HaveRun {E : Type 0} (r : Rounds P S G Ready) (out : Rounds P S G Ready × Result (Unit {0}) E) : Type 0 where
+  pub record HaveRun {E : Type 0} (r : Rounds P S G Ready)
+      (out : Rounds P S G Ready × Result (Unit {0}) E) : Type 0 where
     pub same : AreOf r out.0
     pub at : OnOk out.1 (AreAt r.net.now.run.rounds out.0)

@@ -39,7 +39,8 @@ module _ {P S G Ready : Type 0} where
 
   -- the node may begin the round
   abbrev pub CanBeginTask : ℕ → WorldState → NodeTask P S G Ready → Type 0
-  CanBeginTask round world task = CanPlay task.setting.net.now round world task.setting.boards.now (actor_of task) (pass_of task)
+  CanBeginTask round world task = CanPlay task.setting.net.now round world task.setting.boards.now (actor_of task)
+      (pass_of task)
 
   -- the node has begun the round
   pub record HasBegunTask (round : ℕ) (world : WorldState) (old new : NodeTask P S G Ready) : Type 0 where
@@ -56,7 +57,8 @@ module _ {P S G Ready : Type 0} where
 
   -- the node has played the round that it had begun
   abbrev pub HasEnded : NodeTask P S G Ready → NodeTask P S G Ready → Type 0
-  HasEnded old new = HasPlayedOn old.setting.net.now old.setting.round old.setting.boards.now (actor_of old) (actor_of new) (pass_of old) (pass_of new)
+  HasEnded old new = HasPlayedOn old.setting.net.now old.setting.round old.setting.boards.now (actor_of old)
+      (actor_of new) (pass_of old) (pass_of new)
 
   -- it has played that round, unless memory ran out
   pub record HasPlayedTask (old new : NodeTask P S G Ready) : Type 0 where
@@ -65,15 +67,20 @@ module _ {P S G Ready : Type 0} where
 
   -- the node has played the round, from its begin
   abbrev pub HasPlayedRound : ℕ → WorldState → NodeTask P S G Ready → NodeTask P S G Ready → Type 0
-  HasPlayedRound round world old new = HasPlayed old.setting.net.now round world (actor_of old) (actor_of new) (pass_of old) (pass_of new)
+  HasPlayedRound round world old new = HasPlayed old.setting.net.now round world (actor_of old) (actor_of new)
+      (pass_of old) (pass_of new)
 
   -- this is so of the tasks at each place, before and after
-  pub record AreEach (Is : NodeTask P S G Ready → NodeTask P S G Ready → Type 0) (old new : List (NodeTask P S G Ready)) : Type 0 where
+  pub record AreEach (Is : NodeTask P S G Ready → NodeTask P S G Ready → Type 0)
+      (old new : List (NodeTask P S G Ready)) : Type 0 where
     pub count : length new ≡ length old
-    pub each : (k : ℕ) (s t : NodeTask P S G Ready) → k < length old → Is (slice_index_or old k s) (slice_index_or new k t)
+    pub each : (k : ℕ) (s t : NodeTask P S G Ready) → k < length old
+        → Is (slice_index_or old k s) (slice_index_or new k t)
 
   -- this is so of the tasks at the first places; those at the others are as they were
-  pub record AreFirst (Is : NodeTask P S G Ready → NodeTask P S G Ready → Type 0) (count : ℕ) (old new : List (NodeTask P S G Ready)) : Type 0 where
+  pub record AreFirst (Is : NodeTask P S G Ready → NodeTask P S G Ready → Type 0) (count : ℕ)
+      (old new : List (NodeTask P S G Ready)) : Type 0 where
     pub long : length new ≡ length old
-    pub done : (k : ℕ) (s t : NodeTask P S G Ready) → k < count → k < length old → Is (slice_index_or old k s) (slice_index_or new k t)
+    pub done : (k : ℕ) (s t : NodeTask P S G Ready) → k < count → k < length old
+        → Is (slice_index_or old k s) (slice_index_or new k t)
     pub rest : (k : ℕ) (s : NodeTask P S G Ready) → count ≤ k → slice_index_or new k s ≡ slice_index_or old k s

@@ -50,7 +50,8 @@ AgreesWith _ _ = ⊥
 -- The bytes are the text of the instance of a plan of a run, that of the node with this name in this round. They are read as this
 -- instance and as no other, and every answer of it than which no sequence has less delay agrees with the plan: so does that of
 -- every certificate of it that `check` accepts.
-pub record IsPlannedText (net : Net) (arriving : ℕ → ℕ → ℕ) (history : List ℕ) (node : List ℕ) (round : ℕ) (bytes : List ℕ) : Type 0 where
+pub record IsPlannedText (net : Net) (arriving : ℕ → ℕ → ℕ) (history : List ℕ) (node : List ℕ) (round : ℕ)
+    (bytes : List ℕ) : Type 0 where
   pub run : RunRecord
   pub runs : IsRunOf net arriving history run
   pub plan : PlanRecord

@@ -14,4 +14,11 @@ IsBadHistory net text fault = IsTextFault net text fault × (fault ≢ NoMemory)
 
 -- the kind of texts that say a history of a network, the node of each board step
 abbrev pub HistoryText : Net → Kind
-HistoryText net = record { Said = List ℕ; Fault = HistoryFault; is_text = IsHistoryText net; is_fault = IsBadHistory net; code = history_code }
+HistoryText net =
+    record {
+      Said = List ℕ;
+      Fault = HistoryFault;
+      is_text = IsHistoryText net;
+      is_fault = IsBadHistory net;
+      code = history_code;
+    }

@@ -19,4 +19,5 @@ summary_lines number side rounds tally totals =
 -- the five lines of the summary of a run
 abbrev pub summary_text : ℕ → ℕ → ℕ → RunRecord → List ℕ
 summary_text number side rounds run =
-    summary_lines number side rounds (record { plans = length run.plans; none = none_count run.plans; delay = planned_delays run.plans }) run.totals
+    summary_lines number side rounds
+    (record { plans = length run.plans; none = none_count run.plans; delay = planned_delays run.plans }) run.totals

@@ -24,11 +24,14 @@ pub record AreStepsOf (net : Net) (run : RunRecord) (node : ℕ) (calls : List C
 
 -- whatever logs these calls have, their merge is lawful
 abbrev pub MergeToLawful : Net → (ℕ → List Call) → Type 0
-MergeToLawful net calls = (logs : List Log) (history : List ℕ) → AreLogsOf calls (log_at logs) → IsMerge logs history → IsLawful net history
+MergeToLawful net calls =
+    (logs : List Log) (history : List ℕ) → AreLogsOf calls (log_at logs) → IsMerge logs history → IsLawful net history
 
 -- where the logs of these calls agree with them, this is the run of their merge, with all that a run keeps
 abbrev pub IsRunOfCalls : Net → (ℕ → ℕ → ℕ) → (ℕ → List Call) → RunRecord → Type 0
-IsRunOfCalls net arriving calls run = (logs : List Log) (history : List ℕ) → AreLogsOf calls (log_at logs) → Agree calls (log_at logs) → IsMerge logs history
+IsRunOfCalls net arriving calls run =
+    (logs : List Log) (history : List ℕ) → AreLogsOf calls (log_at logs) → Agree calls (log_at logs)
+    → IsMerge logs history
     → IsKeptRun net arriving history run
 
 -- of each node, how many board steps it has in all rounds
@@ -37,4 +40,5 @@ node_calls net = map (λ node. net.run.rounds * length (board_steps net node)) (
 
 -- each pass has at least as many calls left as its node has board steps in all rounds
 abbrev pub HaveCallsLeft : Net → List PassView → Type 0
-HaveCallsLeft net passes = (node : ℕ) → IfSome (slice_get passes node) (λ p. net.run.rounds * length (board_steps net node) ≤ p.left)
+HaveCallsLeft net passes =
+    (node : ℕ) → IfSome (slice_get passes node) (λ p. net.run.rounds * length (board_steps net node) ≤ p.left)

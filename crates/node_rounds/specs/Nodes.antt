@@ -25,7 +25,8 @@ use Rattle.node_rounds.specs.Told.{AreCallsOf, heard_of}
 
 -- a node may play a round: the round begins in the world's second, the node's actor rests, and its pass is of these boards, has the
 -- node's number, and has the calls of a round left
-pub record CanPlay (net : Net) (round : ℕ) (world : WorldState) (boards : BoardsView) (a : Acting) (p : PassView) : Type 0 where
+pub record CanPlay (net : Net) (round : ℕ) (world : WorldState) (boards : BoardsView) (a : Acting)
+    (p : PassView) : Type 0 where
   pub more : round < net.run.rounds
   pub second : world.second ≡ round * net.run.step
   pub stands : IsWorldOf net world
@@ -50,7 +51,8 @@ pub record HasMade (old new : PassView) (calls : List Call) : Type 0 where
 
 -- what a node sensed is what it senses of any arrivals and lines for which the world stands
 abbrev pub IsSeen : Net → WorldState → ℕ → Sensed → Type 0
-IsSeen net world node sensed = (arriving : ℕ → ℕ → ℕ) (lines : ℕ → List Green) → Stands net arriving (signs_by lines) world
+IsSeen net world node sensed =
+    (arriving : ℕ → ℕ → ℕ) (lines : ℕ → List Green) → Stands net arriving (signs_by lines) world
     → sensed ≡ sense net (cumulative_under net arriving (signs_by lines) world.second) world.second node
 
 -- a node has begun a round: it has sensed the world, and heard nothing yet
@@ -87,7 +89,8 @@ pub record HasHeard (a b : Acting) (p q : PassView) : Type 0 where
 
 -- what an actor tells on a link
 abbrev pub outgoing : Net → ℕ → Acting → List Row
-outgoing net link a = told_forecast net link a.sensed.now (departures a.window.lists (counts_of a.window.lists) a.phases a.served)
+outgoing net link a =
+    told_forecast net link a.sensed.now (departures a.window.lists (counts_of a.window.lists) a.phases a.served)
 
 -- a publishing on a link: the call was added to the pass, with what the actor tells, and the actor wants the next
 pub record HasSent (net : Net) (link : ℕ) (a b : Acting) (p q : PassView) : Type 0 where
@@ -126,7 +129,8 @@ pub record RestsAfter (net : Net) (round : ℕ) (heard : List Heard) (made : Com
 
 -- This is what a node did in a round: it sensed the world and heard each link on which it hears another node; its commit is made
 -- from its line, and from what it sensed and heard; it rests again; and the calls of its pass are those of the round.
-pub record IsRoundOf (net : Net) (round : ℕ) (world : WorldState) (a b : Acting) (p q : PassView) (did : NodeRound) : Type 0 where
+pub record IsRoundOf (net : Net) (round : ℕ) (world : WorldState) (a b : Acting) (p q : PassView)
+    (did : NodeRound) : Type 0 where
   pub sensed : IsSeen net world a.node did.sensed
   pub heard : IsHeardOf net a.node did.heard
   pub commit : IsCommit net a.node round a.line did.sensed did.heard did.made
@@ -141,4 +145,6 @@ HasPlayed net round world a b p q = (did : NodeRound) × IsRoundOf net round wor
 
 -- a node that had begun a round has played it: under whatever world, and from whatever actor, it had begun it
 abbrev pub HasPlayedOn : Net → ℕ → BoardsView → Acting → Acting → PassView → PassView → Type 0
-HasPlayedOn net round boards b c p q = (world : WorldState) (a : Acting) → CanPlay net round world boards a p → HasBegun net round world a b → HasPlayed net round world a c p q
+HasPlayedOn net round boards b c p q =
+    (world : WorldState) (a : Acting) → CanPlay net round world boards a p → HasBegun net round world a b
+    → HasPlayed net round world a c p q

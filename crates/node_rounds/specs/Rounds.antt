@@ -27,17 +27,21 @@ abbrev pub AreSamePasses : List PassView → List PassView → Type 0
 AreSamePasses old new = names new ≡ names old
 
 -- each of these nodes may play a round
-pub record CanAllPlay (net : Net) (round : ℕ) (world : WorldState) (boards : BoardsView) (planners : ℕ) (actors : List Acting) (passes : List PassView) : Type 0 where
+pub record CanAllPlay (net : Net) (round : ℕ) (world : WorldState) (boards : BoardsView) (planners : ℕ)
+    (actors : List Acting) (passes : List PassView) : Type 0 where
   pub planned : planners ≡ length passes
   pub acted : length actors ≡ length passes
-  pub each : (k : ℕ) (a : Acting) (p : PassView) → k < length passes → CanPlay net round world boards (slice_index_or actors k a) (slice_index_or passes k p)
+  pub each : (k : ℕ) (a : Acting) (p : PassView) → k < length passes
+      → CanPlay net round world boards (slice_index_or actors k a) (slice_index_or passes k p)
 
 -- each of these nodes has played a round
-pub record HaveAllPlayed (net : Net) (round : ℕ) (world : WorldState) (old new : List Acting) (before after : List PassView) : Type 0 where
+pub record HaveAllPlayed (net : Net) (round : ℕ) (world : WorldState) (old new : List Acting)
+    (before after : List PassView) : Type 0 where
   pub actors : length new ≡ length old
   pub passes : length after ≡ length before
   pub each : (k : ℕ) (a : Acting) (p : PassView) → k < length before
-      → HasPlayed net round world (slice_index_or old k a) (slice_index_or new k a) (slice_index_or before k p) (slice_index_or after k p)
+      → HasPlayed net round world (slice_index_or old k a) (slice_index_or new k a) (slice_index_or before k p)
+      (slice_index_or after k p)
 
 -- Below, `heard round node` is what a node has heard in a round, and `made round node` its commit.
 module _ (net : Net) (heard : ℕ → ℕ → List Heard) (made : ℕ → ℕ → Commitment) where
@@ -52,19 +56,22 @@ module _ (net : Net) (heard : ℕ → ℕ → List Heard) (made : ℕ → ℕ �
   -- the calls of `rounds` rounds
   abbrev pub AreCallsIn : ℕ → (ℕ → List Call) → Type 0
   AreCallsIn zero calls = (node : ℕ) → calls node ≡ []
-  AreCallsIn (suc rounds) calls = (early last : ℕ → List Call) × (mark : ℕ) × AreRoundOf rounds mark calls early last × AreCallsIn rounds early
+  AreCallsIn (suc rounds) calls = (early last : ℕ → List Call) × (mark : ℕ) × AreRoundOf rounds mark calls early last
+      × AreCallsIn rounds early
 
 -- The passes of all nodes, each with calls left for the rounds from `round` on: they are all passes of the boards, and no stamp that they may
 -- draw next is below a mark.
 pub record HaveLeft (net : Net) (boards : BoardsView) (round mark : ℕ) (passes : List PassView) : Type 0 where
   pub all : length passes ≡ length net.node_names
   pub own : AreAllPasses boards passes
-  pub left : (node : ℕ) (p : PassView) → node < length net.node_names → (net.run.rounds - round) * length (board_steps net node) ≤ (slice_index_or passes node p).left
+  pub left : (node : ℕ) (p : PassView) → node < length net.node_names
+      → (net.run.rounds - round) * length (board_steps net node) ≤ (slice_index_or passes node p).left
   pub known : (node : ℕ) (p : PassView) → node < length net.node_names → mark ≤ (slice_index_or passes node p).known
 
 -- Between two rounds: `round` are done, each node rests, the world is at the begin of the next round, and the calls of the passes
 -- and the plans are those of the rounds that are done. The list of the plans has capacity for those of all rounds.
-pub record Between (net : Net) (arrivals : Amounts) (boards : BoardsView) (round : ℕ) (passes : List PassView) (actors : List Acting) (world : WorldState) (plans : Vec PlanRecord) : Type 0 where
+pub record Between (net : Net) (arrivals : Amounts) (boards : BoardsView) (round : ℕ) (passes : List PassView)
+    (actors : List Acting) (world : WorldState) (plans : Vec PlanRecord) : Type 0 where
   pub heard : ℕ → ℕ → List Heard
   pub made : ℕ → ℕ → Commitment
   pub mark : ℕ
@@ -73,7 +80,8 @@ pub record Between (net : Net) (arrivals : Amounts) (boards : BoardsView) (round
   pub second : world.second ≡ round * net.run.step
   pub stands : Stands net (arriving_of arrivals) (shown_by net made) world
   pub all : length actors ≡ length net.node_names
-  pub rests : (node : ℕ) (a : Acting) → node < length net.node_names → Rests net made round node (slice_index_or actors node a)
+  pub rests : (node : ℕ) (a : Acting) → node < length net.node_names
+      → Rests net made round node (slice_index_or actors node a)
   pub planned : HasPlans net heard made round plans
   pub own : HaveLeft net boards round mark passes
   pub calls : AreCallsIn net heard made round (calls_in passes)

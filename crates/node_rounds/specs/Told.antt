@@ -14,7 +14,8 @@ heard_of call = record { link = call.link; version = call.version; forecast = ca
 
 -- The calls of a node in a round in which it has heard this and made this commit: they are its board steps, in their order; it has
 -- heard what each reading tells; and each publishing has the forecast that the commit tells on its link.
-pub record AreCallsOf (net : Net) (round node : ℕ) (heard : List Heard) (made : Commitment) (calls : List Call) : Type 0 where
+pub record AreCallsOf (net : Net) (round node : ℕ) (heard : List Heard) (made : Commitment)
+    (calls : List Call) : Type 0 where
   pub steps : map step_of calls ≡ board_steps net node
   pub hears : All (λ call. call.publishes ≡ false → Contains heard (heard_of call)) calls
   pub tells : All (λ call. call.publishes ≡ true → call.forecast ≡ told_in net round call.link made) calls

@@ -29,7 +29,8 @@ no_platoon = record { cluster = no_cluster; parts = [] }
 
 -- the next platoon of phase k, where `left` of each phase are left
 abbrev pub next_platoon : List (List Platoon) → List ℕ → ℕ → Platoon
-next_platoon lists left k = slice_index_or (platoons_at lists k) (length (platoons_at lists k) - slice_index left k) no_platoon
+next_platoon lists left k =
+    slice_index_or (platoons_at lists k) (length (platoons_at lists k) - slice_index left k) no_platoon
 
 -- a platoon that is served, and the second at which it starts
 pub record Departure : Type 0 where
@@ -40,17 +41,20 @@ pub record Departure : Type 0 where
 abbrev pub departures : List (List Platoon) → List ℕ → List ℕ → List Served → List Departure
 departures lists left [] served = []
 departures lists left (k ∷ ks) [] = []
-departures lists left (k ∷ ks) (s ∷ ss) = record { platoon = next_platoon lists left k; start = s.start } ∷ departures lists (one_less left k) ks ss
+departures lists left (k ∷ ks) (s ∷ ss) =
+    record { platoon = next_platoon lists left k; start = s.start } ∷ departures lists (one_less left k) ks ss
 
 -- What of a part comes to the end of the exit in second d, where its platoon starts at this second and the exit takes `travel`
 -- seconds: of what leaves its link so long before, what turns into the exit.
 abbrev pub part_coming : Net → ℕ → ℕ → ℕ → ℕ → Part → ℕ
 part_coming net exit travel d start part =
-    if nat_lt d (start + travel) then 0 else split_of (turns_at net part.link) (slice_index part.amounts (d - (start + travel))) exit
+    if nat_lt d (start + travel) then 0
+    else split_of (turns_at net part.link) (slice_index part.amounts (d - (start + travel))) exit
 
 -- what of all parts of a departure comes to the end of the exit in second d
 abbrev pub departure_coming : Net → ℕ → ℕ → ℕ → Departure → ℕ
-departure_coming net exit travel d departure = sum_by (part_coming net exit travel d departure.start) departure.platoon.parts
+departure_coming net exit travel d departure =
+    sum_by (part_coming net exit travel d departure.start) departure.platoon.parts
 
 -- what of all departures comes to the end of the exit in second d
 abbrev pub coming_in : Net → ℕ → List Departure → ℕ → ℕ
@@ -58,7 +62,8 @@ coming_in net exit leave d = sum_by (departure_coming net exit (link_at net exit
 
 -- the rows of the seconds in which something comes
 abbrev pub positive_rows : (ℕ → ℕ) → List ℕ → List Row
-positive_rows amount seconds = filter (λ row. nat_lt 0 row.amount) (map (λ d. record { second = d; amount = amount d }) seconds)
+positive_rows amount seconds =
+    filter (λ row. nat_lt 0 row.amount) (map (λ d. record { second = d; amount = amount d }) seconds)
 
 -- the forecast of these departures: a row for each second before now + look in which something comes
 unfoldable pub told_forecast : Net → ℕ → ℕ → List Departure → List Row

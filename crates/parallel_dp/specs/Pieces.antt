@@ -54,7 +54,8 @@ IsLayer p served entries = AreLeastOf (IsLed p served) entries
 pub record IsJoinOfAll (lists : List (List Entry)) (joined : List Entry) : Type 0 where
   pub rising : AreRising joined
   pub each : All (λ e. (list : List Entry) × Contains lists list × Contains list e) joined
-  pub all : (list : List Entry) (e : Entry) → Contains lists list → Contains list e → HasEntry joined (key_of_entry e) e.delay
+  pub all : (list : List Entry) (e : Entry) → Contains lists list → Contains list e
+      → HasEntry joined (key_of_entry e) e.delay
 
 -- the piece of a layer from this multiple of the width on
 abbrev pub piece_of : List Entry → ℕ → ℕ → List Entry

@@ -69,7 +69,9 @@ is_unmarked_at plan k = is_unmarked (phase_at plan k)
 
 -- the numbers of the phases strictly between s and j, going up the ring from s; those of all others where j is s
 abbrev pub between : List Phase → ℕ → ℕ → List ℕ
-between plan s j = if nat_lt s j then range_with_len (s + 1) (j - (s + 1)) else range_with_len (s + 1) (length plan - (s + 1)) ++ range_with_len 0 j
+between plan s j =
+    if nat_lt s j then range_with_len (s + 1) (j - (s + 1))
+    else range_with_len (s + 1) (length plan - (s + 1)) ++ range_with_len 0 j
 
 -- the numbers of the phases strictly between s and j, going up the ring from s, at which the ring stops by this test; of all others
 -- where j is s
@@ -155,7 +157,8 @@ IsFirstFault p field = IsFirstOfRanks rank (IsInBounds p) field
 -- fewer than two are unmarked
 abbrev pub IsPlanFault : List Phase → PlanFault → Type 0
 IsPlanFault plan (Count n) = (n ≡ length plan) × ((length plan < 2) ⊎ (4 < length plan))
-IsPlanFault plan (Bound k field) = (2 ≤ length plan) × (length plan ≤ 4) × IsFirstAt IsPhase (λ p. IsFirstFault p field) plan k
+IsPlanFault plan (Bound k field) =
+    (2 ≤ length plan) × (length plan ≤ 4) × IsFirstAt IsPhase (λ p. IsFirstFault p field) plan k
 IsPlanFault plan Skips = (2 ≤ length plan) × (length plan ≤ 4) × All IsPhase plan × (count_by is_unmarked plan < 2)
 
 -- why these phases are no ring: as for a plan, but that none may be unmarked

@@ -21,7 +21,8 @@ IsBadInstance text fault = instances.IsTextFault text fault × ¬ instances.IsOu
 
 -- the kind of texts that say an instance
 abbrev pub InstanceText : Kind
-InstanceText = record { Said = Problem; Fault = TextFault; is_text = IsInstanceText; is_fault = IsBadInstance; code = text_code }
+InstanceText =
+    record { Said = Problem; Fault = TextFault; is_text = IsInstanceText; is_fault = IsBadInstance; code = text_code }
 
 -- the text says a certificate
 abbrev pub IsCertificateText : List ℕ → Claim → Type 0
@@ -33,4 +34,11 @@ IsBadCertificate text fault = certificates.IsTextFault text fault × ¬ certific
 
 -- the kind of texts that say a certificate
 abbrev pub CertificateText : Kind
-CertificateText = record { Said = Claim; Fault = CertText; is_text = IsCertificateText; is_fault = IsBadCertificate; code = cert_code }
+CertificateText =
+    record {
+      Said = Claim;
+      Fault = CertText;
+      is_text = IsCertificateText;
+      is_fault = IsBadCertificate;
+      code = cert_code;
+    }

@@ -36,13 +36,15 @@ pub record IsAcceptedText (bytes : List ℕ) (c : Claim) : Type 0 where
 -- the bytes are the text of a certificate of the instance, with the best answer and the whole table
 abbrev pub IsWholeCertificate : Problem → List ℕ → Type 0
 IsWholeCertificate p bytes =
-    (c : Claim) × (c.problem ≡ p) × IsWhole c.problem c.entries × IsBest c.problem c.answer × (bytes ≡ certificate_text c)
+    (c : Claim) × (c.problem ≡ p) × IsWhole c.problem c.entries × IsBest c.problem c.answer
+    × (bytes ≡ certificate_text c)
     × IsAcceptedText bytes c
 
 -- the bytes are the text of a certificate of the instance, with the best answer and the bounded table
 abbrev pub IsBoundedCertificate : Problem → List ℕ → Type 0
 IsBoundedCertificate p bytes =
-    (c : Claim) × (c.problem ≡ p) × IsBounded c.problem c.entries × IsBest c.problem c.answer × (bytes ≡ certificate_text c)
+    (c : Claim) × (c.problem ≡ p) × IsBounded c.problem c.entries × IsBest c.problem c.answer
+    × (bytes ≡ certificate_text c)
     × IsAcceptedText bytes c
 
 -- `certify FILE`, and `certify_par FILE WIDTH`

@@ -12,7 +12,8 @@ arrival p k place = (cluster_at (list_at p.lists k) place).arr
 -- after these counts of served clusters the next one of phase k comes before all that are left
 pub record ComesNext (p : Problem) (counts : List ℕ) (k : ℕ) : Type 0 where
   pub some : slice_index counts k < length (list_at p.lists k)
-  pub first : (j place : ℕ) → slice_index counts j ≤ place → place < length (list_at p.lists j) → ComesFirst (arrival p k (slice_index counts k)) k (arrival p j place) j
+  pub first : (j place : ℕ) → slice_index counts j ≤ place → place < length (list_at p.lists j)
+      → ComesFirst (arrival p k (slice_index counts k)) k (arrival p j place) j
 
 -- after these counts of served clusters a sequence serves all that are left, each before those that come after it
 abbrev pub GoesByArrival : Problem → List ℕ → List ℕ → Type 0

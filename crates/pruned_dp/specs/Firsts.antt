@@ -15,7 +15,8 @@ pub record IsFirstAmong (p : Problem) (counts : List ℕ) (n : ℕ) (first : ℕ
   pub phase : first.1 < n
   pub some : slice_index counts first.1 < length (list_at p.lists first.1)
   pub arr : first.0 ≡ arrival p first.1 (slice_index counts first.1)
-  pub comes : (k : ℕ) → k < n → slice_index counts k < length (list_at p.lists k) → ComesFirst first.0 first.1 (arrival p k (slice_index counts k)) k
+  pub comes : (k : ℕ) → k < n → slice_index counts k < length (list_at p.lists k)
+      → ComesFirst first.0 first.1 (arrival p k (slice_index counts k)) k
 
 -- of the first n phases, the next cluster that comes first; none where none of them has one left
 abbrev pub IsFirstOf : Problem → List ℕ → ℕ → Option (ℕ × ℕ) → Type 0

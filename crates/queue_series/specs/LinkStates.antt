@@ -54,7 +54,9 @@ abbrev pub state_record : Net → ℕ → ℕ → LinkState → List (List ℕ)
 state_record net l second state = decimal second ∷ link_name_at net l ∷ decimal state.queue ∷ decimal state.on ∷ []
 
 abbrev pub kept_records : Net → WorldState → List LinkState → ℕ → List (List (List ℕ))
-kept_records net world link_states l = if are_same (state_at link_states l) (next_at world link_states l) then [] else state_record net l world.second (next_at world link_states l) ∷ []
+kept_records net world link_states l =
+    if are_same (state_at link_states l) (next_at world link_states l) then []
+    else state_record net l world.second (next_at world link_states l) ∷ []
 
 -- in each link before number k the state has moved on, and the others are as they were
 pub record HaveMoved (world : WorldState) (old : List LinkState) (k : ℕ) (new : List LinkState) : Type 0 where

@@ -19,7 +19,8 @@ is_still net past n l = (queue net past n l == queue net past (n + 1) l) && (on_
 
 -- the record of a link at second n
 abbrev pub link_record : Net → (ℕ → ℕ → Cumulative) → ℕ → ℕ → List (List ℕ)
-link_record net past n l = decimal n ∷ link_name_at net l ∷ decimal (queue net past n l) ∷ decimal (on_link past n l) ∷ []
+link_record net past n l =
+    decimal n ∷ link_name_at net l ∷ decimal (queue net past n l) ∷ decimal (on_link past n l) ∷ []
 
 -- that of a link at second n + 1, where it is not still
 abbrev pub change_records : Net → (ℕ → ℕ → Cumulative) → ℕ → ℕ → List (List (List ℕ))
@@ -49,4 +50,7 @@ header = codes "second" ∷ codes "link" ∷ codes "queue" ∷ codes "on" ∷ []
 pub record IsSeries (net : Net) (past : ℕ → ℕ → Cumulative) (end : ℕ) (bytes : List ℕ) : Type 0 where
   pub peaks : ℕ → Peak
   pub are : (l : ℕ) → l < length net.link_names → IsPeak net past end l (peaks l)
-  pub text : bytes ≡ records_text (header ∷ (flat_map (second_records net past) (range_with_len 0 end) ++ map (peak_record net peaks) (range_with_len 0 (length net.link_names))))
+  pub text : bytes
+      ≡ records_text
+      (header ∷ (flat_map (second_records net past) (range_with_len 0 end)
+      ++ map (peak_record net peaks) (range_with_len 0 (length net.link_names))))

@@ -9,7 +9,8 @@ pub record HasAfterHeader {X : Type 0} (header : X) (all : List X) (holds : List
 
 -- The element with this number, counted from 1, is the first at fault: those before it are read, as `so_far`, and `at_fault`
 -- holds of that and of the element.
-pub record IsFirstFault {X S : Type 0} (read_as : List X → S → Type 0) (all : List X) (number : ℕ) (at_fault : S → X → Type 0) : Type 0 where
+pub record IsFirstFault {X S : Type 0} (read_as : List X → S → Type 0) (all : List X) (number : ℕ)
+    (at_fault : S → X → Type 0) : Type 0 where
   pub before : List X
   pub here : X
   pub after : List X

@@ -25,7 +25,8 @@ abbrev pub IsTextOf : {Y V : Type 0} → Form Y V → List ℕ → V → Type 0
 IsTextOf form bytes value = AreRecordsOf form (records_of bytes) value
 
 -- these elements are read as this, which is lawful
-pub record AreReadAs {X Y : Type 0} (read : X → Option Y) (is_lawful : List Y → Type 0) (elements : List X) (parsed : List Y) : Type 0 where
+pub record AreReadAs {X Y : Type 0} (read : X → Option Y) (is_lawful : List Y → Type 0) (elements : List X)
+    (parsed : List Y) : Type 0 where
   pub reads : each read elements ≡ Some parsed
   pub lawful : is_lawful parsed
 
@@ -42,8 +43,11 @@ pub data Cause (Y : Type 0) : Type 1 where
 abbrev pub AreRefusedFor : {Y V : Type 0} → Form Y V → List (List (List ℕ)) → Cause Y → Type 0
 AreRefusedFor form all OutOfMemory = Unit {0}
 AreRefusedFor form all NoHeader = (records : List (List (List ℕ))) → all ≢ form.header ∷ records
-AreRefusedFor form all (AtRecord number at_fault) = HasAfterHeader form.header all (λ records. IsFirstFault (AreReadAs form.read form.lawful) records number at_fault)
-AreRefusedFor {Y} form all (AtEnd at_fault) = HasAfterHeader form.header all (λ records. (parsed : List Y) × AreReadAs form.read form.lawful records parsed × at_fault parsed)
+AreRefusedFor form all (AtRecord number at_fault) =
+    HasAfterHeader form.header all (λ records. IsFirstFault (AreReadAs form.read form.lawful) records number at_fault)
+AreRefusedFor {Y} form all (AtEnd at_fault) =
+    HasAfterHeader form.header all
+    (λ records. (parsed : List Y) × AreReadAs form.read form.lawful records parsed × at_fault parsed)
 
 -- a text is refused for the cause of its records
 abbrev pub IsRefusedFor : {Y V : Type 0} → Form Y V → List ℕ → Cause Y → Type 0

@@ -41,9 +41,11 @@ IsJoinFault net (Phaseless l) =
 IsJoinFault net (Also l) = IsHomed net × IsFirstWithout (IsAlso net) (length net.links) l
 IsJoinFault net (Clash a b) = IsHomed net × EachIndex net.links (IsAlso net) × IsFirstClash net (a, b)
 IsJoinFault net (Yields l) =
-    IsHomed net × EachIndex net.links (IsAlso net) × All (IsConflict net) net.conflicts × IsFirstWithout (IsYield net) (length net.links) l
+    IsHomed net × EachIndex net.links (IsAlso net) × All (IsConflict net) net.conflicts
+    × IsFirstWithout (IsYield net) (length net.links) l
 IsJoinFault net (Walk l) =
-    IsHomed net × EachIndex net.links (IsAlso net) × All (IsConflict net) net.conflicts × EachIndex net.links (IsYield net)
+    IsHomed net × EachIndex net.links (IsAlso net) × All (IsConflict net) net.conflicts
+    × EachIndex net.links (IsYield net)
     × IsFirstWithout (IsWalk net) (length net.links) l
 IsJoinFault net _ = ⊥
 
@@ -67,5 +69,6 @@ IsDraftFault d NoMemory = Unit {0}
 IsDraftFault d (Bound place) = IsBoundFault d place.part place.item place.sub
 IsDraftFault d (Twice place) = IsBounded d × IsTwiceFault d place.part place.item place.sub
 IsDraftFault d (Unknown place) =
-    IsBounded d × AreDistinct (node_names d) × AreDistinct (link_names d) × IsUnknownFault d place.part place.item place.sub
+    IsBounded d × AreDistinct (node_names d) × AreDistinct (link_names d)
+    × IsUnknownFault d place.part place.item place.sub
 IsDraftFault d fault = HasNumbers d (λ net. IsJoinFault net fault)

@@ -32,7 +32,9 @@ is_node node (Some n) = n == node
 -- the numbers of the links that have the node at this side, rising; the first link of the list has the number `first`
 abbrev pub links_from : Side → ℕ → ℕ → List Link → List ℕ
 links_from side node first [] = []
-links_from side node first (l ∷ ls) = if is_node node (node_at side l) then first ∷ links_from side node (suc first) ls else links_from side node (suc first) ls
+links_from side node first (l ∷ ls) =
+    if is_node node (node_at side l) then first ∷ links_from side node (suc first) ls
+    else links_from side node (suc first) ls
 
 -- the numbers of all links of a network that have the node at this side, rising
 abbrev pub links_of_node : Side → List Link → ℕ → List ℕ
@@ -76,7 +78,10 @@ times_named phase_links link = count_by (λ l. l == link) (named_links phase_lin
 
 -- a link that ends at a node is named once, in a phase of that node; one that ends at no node is not named
 abbrev pub IsPhased : List (List (List ℕ)) → ℕ → Option ℕ → Type 0
-IsPhased phase_links link to = MatchOption to (times_named phase_links link ≡ 0) (λ node. (times_named phase_links link ≡ 1) × IsSome (position (has_link link) (slice_index_or phase_links node [])))
+IsPhased phase_links link to =
+    MatchOption to (times_named phase_links link ≡ 0)
+    (λ node. (times_named phase_links link ≡ 1)
+    × IsSome (position (has_link link) (slice_index_or phase_links node [])))
 
 -- two links have no green in common: there is no phase in which both are green
 abbrev pub AreNeverBoth : Net → ℕ → ℕ → Type 0
@@ -115,7 +120,9 @@ HasLongGreens net l seconds n = (k : ℕ) → IsTrue (is_green_in net l k) → s
 
 -- a link with a walk ends at a node, and who enters at the end of the walk is over before the least green ends
 abbrev pub IsWalk : Net → ℕ → Type 0
-IsWalk net l = IfSome (link_at net.links l).walk (λ walk. MatchOption (link_at net.links l).to ⊥ (HasLongGreens net l (walk.seconds + walk.cross)))
+IsWalk net l =
+    IfSome (link_at net.links l).walk
+    (λ walk. MatchOption (link_at net.links l).to ⊥ (HasLongGreens net l (walk.seconds + walk.cross)))
 
 -- the conflict at this place
 abbrev pub conflict_at : List (ℕ × ℕ) → ℕ → ℕ × ℕ
@@ -170,4 +177,5 @@ split_of turns amount exit = option_map_or (part turns amount) (position (λ t. 
 -- exit of one of them is the part of that turn
 pub record AreParts (turns : List Turn) : Type 0 where
   pub shares : (k : ℕ) → shares_to turns k ≤ 1000
-  pub each : (amount k : ℕ) (d : Turn) → k < length turns → split_of turns amount (slice_index_or turns k d).exit ≡ part turns amount k
+  pub each : (amount k : ℕ) (d : Turn) → k < length turns
+      → split_of turns amount (slice_index_or turns k d).exit ≡ part turns amount k

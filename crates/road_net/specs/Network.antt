@@ -59,9 +59,12 @@ pub record AreApart (net : Net) (n : ℕ) : Type 0 where
 -- How phases serve links. A link that a phase serves ends at its node, has this phase, and stands there once; a link
 -- that ends at a node is served by its phase there.
 pub record IsServed (net : Net) : Type 0 where
-  pub phase_links : (n k i : ℕ) → n < length net.node_names → k < length (plan_at net n) → i < length (phase_links_at net n k)
-      → ((link_at net (slice_index (phase_links_at net n k) i)).to ≡ Some n) × ((link_at net (slice_index (phase_links_at net n k) i)).phase ≡ k)
-  pub differ : (n k : ℕ) → n < length net.node_names → k < length (plan_at net n) → AllPairs (λ a b. a ≢ b) (phase_links_at net n k)
+  pub phase_links : (n k i : ℕ) → n < length net.node_names → k < length (plan_at net n)
+      → i < length (phase_links_at net n k)
+      → ((link_at net (slice_index (phase_links_at net n k) i)).to ≡ Some n)
+      × ((link_at net (slice_index (phase_links_at net n k) i)).phase ≡ k)
+  pub differ : (n k : ℕ) → n < length net.node_names → k < length (plan_at net n)
+      → AllPairs (λ a b. a ≢ b) (phase_links_at net n k)
   pub entries : (l n : ℕ) → l < length net.link_names → (link_at net l).to ≡ Some n
       → ((link_at net l).phase < length (plan_at net n)) × Contains (phase_links_at net n (link_at net l).phase) l
 

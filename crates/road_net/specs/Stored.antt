@@ -46,7 +46,8 @@ HasFewAt lists node = length (slice_index_or lists node []) ≤ 16
 -- the number is at the end of the list of this node, and no other list has changed
 pub record IsPushedAt (node : Option ℕ) (number : ℕ) (old new : List (List ℕ)) : Type 0 where
   pub count : length new ≡ length old
-  pub each : (n : ℕ) → n < length old → slice_index_or new n [] ≡ slice_index_or old n [] ++ (if is_node n node then number ∷ [] else [])
+  pub each : (n : ℕ) → n < length old
+      → slice_index_or new n [] ≡ slice_index_or old n [] ++ (if is_node n node then number ∷ [] else [])
 
 -- how often each of this number of links is among those that are named
 pub record AreTimes (named : List ℕ) (links : ℕ) (times : List ℕ) : Type 0 where

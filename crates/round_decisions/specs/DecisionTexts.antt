@@ -27,7 +27,9 @@ answer_fields NoPlan = codes "none" ∷ [] ∷ []
 
 -- the record of a plan: the versions that it used, with a semicolon between each two, and its answer
 abbrev pub plan_record : Net → PlanRecord → List (List ℕ)
-plan_record net plan = codes "plan" ∷ node_name_at net plan.node ∷ join_with_byte 59 (map (used_text net) plan.used) ∷ answer_fields plan.answer
+plan_record net plan =
+    codes "plan" ∷ node_name_at net plan.node ∷ join_with_byte 59 (map (used_text net) plan.used)
+    ∷ answer_fields plan.answer
 
 -- the records of a node's turn: its plan, and the rows of its line that rounds from this second on need
 abbrev pub turn_records : Net → ℕ → PlanRecord → List Green → List (List (List ℕ))
@@ -44,7 +46,8 @@ is_shown net (Some node) link = tells net node link
 
 -- the records of the board of a link, where it is told
 abbrev pub board_records_of : Net → Option ℕ → List LinkBoard → ℕ → List (List (List ℕ))
-board_records_of net node boards link = if is_shown net node link then board_records net link (board_of boards link) else []
+board_records_of net node boards link =
+    if is_shown net node link then board_records net link (board_of boards link) else []
 
 -- those of all links, by number
 abbrev pub boards_records : Net → Option ℕ → List LinkBoard → List (List (List ℕ))
@@ -52,7 +55,9 @@ boards_records net node boards = flat_map (board_records_of net node boards) (ra
 
 -- the records of what a decision of a round tells: of the turn of each node, and of the boards
 abbrev pub told_records : Net → ℕ → Decision → List (List (List ℕ))
-told_records net round d = flat_map (λ plan. turn_records net (begin_of net round) plan (decided_line d plan.node)) d.plans ++ boards_records net None d.boards
+told_records net round d =
+    flat_map (λ plan. turn_records net (begin_of net round) plan (decided_line d plan.node)) d.plans
+    ++ boards_records net None d.boards
 
 -- the records of a decision of a round: the header, and those of what it tells
 abbrev pub decision_records : Net → ℕ → Decision → List (List (List ℕ))
@@ -60,7 +65,8 @@ decision_records net round d = header ∷ told_records net round d
 
 -- The records of what one node decides: the header; its turn; and the boards of the links on which it tells another one.
 abbrev pub node_decision_records : Net → ℕ → ℕ → NodeDecision → List (List (List ℕ))
-node_decision_records net round node d = header ∷ turn_records net (begin_of net round) d.plan d.line ++ boards_records net (Some node) d.boards
+node_decision_records net round node d =
+    header ∷ turn_records net (begin_of net round) d.plan d.line ++ boards_records net (Some node) d.boards
 
 -- the text of a decision, and that of what one node decides
 abbrev pub decision_text : Net → ℕ → Decision → List ℕ

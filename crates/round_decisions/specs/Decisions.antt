@@ -38,7 +38,9 @@ has_told net nodes link = is_below nodes (link_at net link).from && is_some (lin
 -- them, the next version, with the forecast that the publisher's commit tells
 abbrev pub board_after : Net → RoundState → (ℕ → Commitment) → ℕ → ℕ → LinkBoard
 board_after net state made nodes link =
-    if has_told net nodes link then next_board (board_of state.boards link) (told_in net state.round link (made (publisher net link))) else board_of state.boards link
+    if has_told net nodes link
+    then next_board (board_of state.boards link) (told_in net state.round link (made (publisher net link)))
+    else board_of state.boards link
 
 -- what a node hears when its turn comes: the nodes with lesser numbers have had theirs
 abbrev pub heard_in : Net → RoundState → (ℕ → Commitment) → ℕ → List Heard
@@ -50,7 +52,10 @@ plan_in net state made node = record_of node state.round (heard_in net state mad
 
 -- the first `nodes` nodes commit, each from its line, from what it senses, and from what it hears when its turn comes
 abbrev pub AllCommit : Net → RoundState → (ℕ → Commitment) → ℕ → Type 0
-AllCommit net state made nodes = (node : ℕ) → node < nodes → IsCommit net node state.round (line_of state node) (sensed_of state node) (heard_in net state made node) (made node)
+AllCommit net state made nodes =
+    (node : ℕ) → node < nodes
+    → IsCommit net node state.round (line_of state node) (sensed_of state node) (heard_in net state made node)
+    (made node)
 
 -- A decision of a round from a state: all nodes commit, and it has their plan records, their lines, and the boards after all
 -- turns.
@@ -59,4 +64,5 @@ pub record IsDecision (net : Net) (state : RoundState) (d : Decision) : Type 0 w
   pub commits : AllCommit net state made (length net.node_names)
   pub plans : d.plans ≡ map (plan_in net state made) (range_with_len 0 (length net.node_names))
   pub lines : d.lines ≡ map (λ node. (made node).line) (range_with_len 0 (length net.node_names))
-  pub boards : d.boards ≡ map (board_after net state made (length net.node_names)) (range_with_len 0 (length net.link_names))
+  pub boards : d.boards
+      ≡ map (board_after net state made (length net.node_names)) (range_with_len 0 (length net.link_names))

@@ -6,4 +6,5 @@ use Rattle.control_flow.specs.declared.greens.Green.{Green}
 abbrev pub rows_from : ℕ → List Green → List Green
 rows_from second [] = []
 rows_from second (row ∷ []) = row ∷ []
-rows_from second (row ∷ next ∷ rows) = if nat_le next.from second then rows_from second (next ∷ rows) else row ∷ next ∷ rows
+rows_from second (row ∷ next ∷ rows) =
+    if nat_le next.from second then rows_from second (next ∷ rows) else row ∷ next ∷ rows

@@ -15,7 +15,8 @@ use Rattle.round_decisions.specs.Turns.{board_of}
 use Rattle.round_decisions.specs.declared.decisions.Decision.{Decision}
 
 -- the run of the turn order
-pub record IsTurnRun (net : Net) (arriving : ℕ → ℕ → ℕ) (heard : ℕ → ℕ → List Heard) (made : ℕ → ℕ → Commitment) (run : RunRecord) : Type 0 where
+pub record IsTurnRun (net : Net) (arriving : ℕ → ℕ → ℕ) (heard : ℕ → ℕ → List Heard) (made : ℕ → ℕ → Commitment)
+    (run : RunRecord) : Type 0 where
   pub by : IsRunBy net arriving heard made run
   pub along : HearAlong net (turn_order net) heard made
 
@@ -27,14 +28,16 @@ board_in net made link round = record { version = round; forecast = forecast_at 
 -- round, and each board of a link between two nodes is that with which the round begins.
 pub record IsStateIn (net : Net) (arriving : ℕ → ℕ → ℕ) (made : ℕ → ℕ → Commitment) (state : RoundState) : Type 0 where
   pub round : state.round < net.run.rounds
-  pub sensed : (node : ℕ) → node < length net.node_names → sensed_of state node ≡ sensed_in net arriving made state.round node
+  pub sensed : (node : ℕ) → node < length net.node_names
+      → sensed_of state node ≡ sensed_in net arriving made state.round node
   pub lines : (node : ℕ) → node < length net.node_names → line_of state node ≡ line_before net made state.round node
   pub boards : (link from to : ℕ) → (link_at net link).from ≡ Some from → (link_at net link).to ≡ Some to
       → board_of state.boards link ≡ board_in net made link state.round
 
 -- A decision has the plan records of a run's round, and the lines of its commits; and each board of a link between two nodes is that
 -- with which the run's next round begins.
-pub record IsRoundIn (net : Net) (heard : ℕ → ℕ → List Heard) (made : ℕ → ℕ → Commitment) (round : ℕ) (d : Decision) : Type 0 where
+pub record IsRoundIn (net : Net) (heard : ℕ → ℕ → List Heard) (made : ℕ → ℕ → Commitment) (round : ℕ)
+    (d : Decision) : Type 0 where
   pub plans : d.plans ≡ plans_in net heard made round
   pub lines : d.lines ≡ map (λ node. (made round node).line) (range_with_len 0 (length net.node_names))
   pub boards : (link from to : ℕ) → (link_at net link).from ≡ Some from → (link_at net link).to ≡ Some to

@@ -48,21 +48,27 @@ abbrev pub moved_cluster : ℕ → Cluster → Cluster
 moved_cluster d c = record { size = c.size; load = c.load; arr = c.arr + d; len = c.len }
 
 abbrev pub moved_problem : ℕ → Problem → Problem
-moved_problem d p = record { plan = p.plan; head = moved_head d p.head; lists = map (λ list. map (moved_cluster d) list) p.lists }
+moved_problem d p =
+    record { plan = p.plan; head = moved_head d p.head; lists = map (λ list. map (moved_cluster d) list) p.lists }
 
 -- A state moved by some rounds: its round is greater by these, and what is sensed, the lines and the forecasts are moved by as many
 -- seconds as these rounds take. The versions of its boards may be any.
 pub record IsMovedState (net : Net) (rounds : ℕ) (state moved : RoundState) : Type 0 where
   pub round : moved.round ≡ state.round + rounds
-  pub sensed : (node : ℕ) → node < length net.node_names → sensed_of moved node ≡ moved_sensed (begin_of net rounds) (sensed_of state node)
-  pub lines : (node : ℕ) → node < length net.node_names → line_of moved node ≡ moved_line (begin_of net rounds) (line_of state node)
+  pub sensed : (node : ℕ) → node < length net.node_names
+      → sensed_of moved node ≡ moved_sensed (begin_of net rounds) (sensed_of state node)
+  pub lines : (node : ℕ) → node < length net.node_names
+      → line_of moved node ≡ moved_line (begin_of net rounds) (line_of state node)
   pub board_count : length moved.boards ≡ length state.boards
-  pub boards : (link : ℕ) → (board_of moved.boards link).forecast ≡ moved_forecast (begin_of net rounds) (board_of state.boards link).forecast
+  pub boards : (link : ℕ)
+      → (board_of moved.boards link).forecast
+      ≡ moved_forecast (begin_of net rounds) (board_of state.boards link).forecast
 
 -- The version of a link in a decision is the same from two states, but for the versions with which they begin: it is above both by
 -- as much.
 abbrev pub IsVersionMoved : RoundState → RoundState → ℕ → ℕ → ℕ → Type 0
-IsVersionMoved state moved link version other = other + (board_of state.boards link).version ≡ version + (board_of moved.boards link).version
+IsVersionMoved state moved link version other =
+    other + (board_of state.boards link).version ≡ version + (board_of moved.boards link).version
 
 -- a version of a link that was used, and the one that is used from the moved state
 pub record IsMovedUse (state moved : RoundState) (heard other : Used) : Type 0 where
@@ -76,10 +82,12 @@ pub record IsMovedPlan (net : Net) (rounds : ℕ) (state moved : RoundState) (pl
   pub instance : other.instance ≡ moved_problem (begin_of net rounds) plan.instance
   pub answer : other.answer ≡ plan.answer
   pub uses : length other.used ≡ length plan.used
-  pub used : (k : ℕ) (x : Used) → k < length plan.used → IsMovedUse state moved (slice_index_or plan.used k x) (slice_index_or other.used k x)
+  pub used : (k : ℕ) (x : Used) → k < length plan.used
+      → IsMovedUse state moved (slice_index_or plan.used k x) (slice_index_or other.used k x)
 
 -- a board moved by some rounds
-pub record IsMovedBoard (net : Net) (rounds : ℕ) (state moved : RoundState) (link : ℕ) (board other : LinkBoard) : Type 0 where
+pub record IsMovedBoard (net : Net) (rounds : ℕ) (state moved : RoundState) (link : ℕ)
+    (board other : LinkBoard) : Type 0 where
   pub version : IsVersionMoved state moved link board.version other.version
   pub forecast : other.forecast ≡ moved_forecast (begin_of net rounds) board.forecast
 
@@ -87,19 +95,26 @@ pub record IsMovedBoard (net : Net) (rounds : ℕ) (state moved : RoundState) (l
 -- each link.
 pub record IsMovedDecision (net : Net) (rounds : ℕ) (state moved : RoundState) (d other : Decision) : Type 0 where
   pub plan_count : length other.plans ≡ length d.plans
-  pub plans : (k : ℕ) (x : PlanRecord) → k < length d.plans → IsMovedPlan net rounds state moved (slice_index_or d.plans k x) (slice_index_or other.plans k x)
-  pub lines : (node : ℕ) → node < length net.node_names → decided_line other node ≡ moved_line (begin_of net rounds) (decided_line d node)
+  pub plans : (k : ℕ) (x : PlanRecord) → k < length d.plans
+      → IsMovedPlan net rounds state moved (slice_index_or d.plans k x) (slice_index_or other.plans k x)
+  pub lines : (node : ℕ) → node < length net.node_names
+      → decided_line other node ≡ moved_line (begin_of net rounds) (decided_line d node)
   pub told : (node : ℕ) → node < length net.node_names
-      → rows_from (begin_of net moved.round) (decided_line other node) ≡ moved_line (begin_of net rounds) (rows_from (begin_of net state.round) (decided_line d node))
-  pub boards : (link : ℕ) → link < length net.link_names → IsMovedBoard net rounds state moved link (board_of d.boards link) (board_of other.boards link)
+      → rows_from (begin_of net moved.round) (decided_line other node)
+      ≡ moved_line (begin_of net rounds) (rows_from (begin_of net state.round) (decided_line d node))
+  pub boards : (link : ℕ) → link < length net.link_names
+      → IsMovedBoard net rounds state moved link (board_of d.boards link) (board_of other.boards link)
 
 -- what one node decides by itself in its turn from a state
 abbrev pub IsTurnOf : Net → RoundState → ℕ → NodeDecision → Type 0
-IsTurnOf net state node d = IsTurn net state.round node (line_of state node) (sensed_of state node) state.boards d.boards d.plan d.line
+IsTurnOf net state node d =
+    IsTurn net state.round node (line_of state node) (sensed_of state node) state.boards d.boards d.plan d.line
 
 -- What one node decides by itself from the moved state is the same, moved.
 pub record IsMovedTurn (net : Net) (rounds : ℕ) (state moved : RoundState) (d other : NodeDecision) : Type 0 where
   pub plan : IsMovedPlan net rounds state moved d.plan other.plan
   pub line : other.line ≡ moved_line (begin_of net rounds) d.line
-  pub told : rows_from (begin_of net moved.round) other.line ≡ moved_line (begin_of net rounds) (rows_from (begin_of net state.round) d.line)
-  pub boards : (link : ℕ) → link < length net.link_names → IsMovedBoard net rounds state moved link (board_of d.boards link) (board_of other.boards link)
+  pub told : rows_from (begin_of net moved.round) other.line
+      ≡ moved_line (begin_of net rounds) (rows_from (begin_of net state.round) d.line)
+  pub boards : (link : ℕ) → link < length net.link_names
+      → IsMovedBoard net rounds state moved link (board_of d.boards link) (board_of other.boards link)

@@ -30,11 +30,17 @@ use Rattle.round_decisions.specs.declared.decisions.NodeDecision.{NodeDecision}
 -- the forecast of a version of a link: that of the state, or of the version that its publisher's commit made in this round
 abbrev pub forecast_of : Net → RoundState → (ℕ → Commitment) → ℕ → ℕ → List Row
 forecast_of net state made link version =
-    if version == (board_of state.boards link).version then (board_of state.boards link).forecast else told_in net state.round link (made (publisher net link))
+    if version == (board_of state.boards link).version then (board_of state.boards link).forecast
+    else told_in net state.round link (made (publisher net link))
 
 -- what a plan heard: the versions that it names, with their forecasts
 abbrev pub heard_by : Net → RoundState → (ℕ → Commitment) → PlanRecord → List Heard
-heard_by net state made plan = map (λ (u : Used). record { link = u.link; version = u.version; forecast = forecast_of net state made u.link u.version }) plan.used
+heard_by net state made plan =
+    map (λ (u : Used). record {
+      link = u.link;
+      version = u.version;
+      forecast = forecast_of net state made u.link u.version;
+    }) plan.used
 
 -- The instance of a plan is that of just the versions that it names: it is what the node has to plan, from its line, from what
 -- it senses, and from the forecasts of those versions.
@@ -44,7 +50,8 @@ pub record IsPlannedFrom (net : Net) (state : RoundState) (made : ℕ → Commit
   pub head : Head
   pub platoons : List (List Platoon)
   pub window : Window
-  pub instance : IsProblemOf net plan.node (line_of state plan.node) (sensed_of state plan.node) (heard_by net state made plan) head platoons window plan.instance
+  pub instance : IsProblemOf net plan.node (line_of state plan.node) (sensed_of state plan.node)
+      (heard_by net state made plan) head platoons window plan.instance
 
 -- How a node's line goes on from the second in which a round begins: it is one for the next round, none of its rows begins too late
 -- there, before that second it shows the same signs, and it is continued by lawful rows whose intergreens are no longer than the node
@@ -65,7 +72,8 @@ decided_line d node = slice_index_or d.lines node []
 pub record KeepsPromises (net : Net) (state : RoundState) (made : ℕ → Commitment) (d : Decision) : Type 0 where
   pub planned : All (IsPlannedFrom net state made) d.plans
   pub least : All (λ plan. IsLeast plan.instance plan.answer) d.plans
-  pub lines : (node : ℕ) → node < length net.node_names → GoesOnAt net state.round node (line_of state node) (decided_line d node)
+  pub lines : (node : ℕ) → node < length net.node_names
+      → GoesOnAt net state.round node (line_of state node) (decided_line d node)
   pub boards : All (IsBoard (state.round + 1)) d.boards
   pub safe : IsSafe net (decided_line d)
 

@@ -25,14 +25,16 @@ use Rattle.round_decisions.specs.declared.rounds.Waiting.{Waiting}
 -- The actor has read the first of its links: what it has heard, and what it will hear of those that are left, is what it hears
 -- in all.
 pub record HasHeard (boards : List LinkBoard) (a b : Acting) : Type 0 where
-  pub whole : b.heard ++ map (hearing_on (board_of boards)) b.left ≡ a.heard ++ map (hearing_on (board_of boards)) a.left
+  pub whole : b.heard ++ map (hearing_on (board_of boards)) b.left
+      ≡ a.heard ++ map (hearing_on (board_of boards)) a.left
   pub there : All (λ link. link < length boards) b.left
   pub want : b.want ≡ reading b.left
   pub actor : b ≡ record a { want = b.want; left = b.left; heard = b.heard }
 
 -- what an actor tells on a link
 abbrev pub outgoing : Net → Acting → ℕ → List Row
-outgoing net a link = told_forecast net link a.sensed.now (departures a.window.lists (counts_of a.window.lists) a.phases a.served)
+outgoing net a link =
+    told_forecast net link a.sensed.now (departures a.window.lists (counts_of a.window.lists) a.phases a.served)
 
 -- The actor has told on its links below `first`.
 pub record HasTold (net : Net) (a b : Acting) (old new : List LinkBoard) : Type 0 where
@@ -40,14 +42,18 @@ pub record HasTold (net : Net) (a b : Acting) (old new : List LinkBoard) : Type 
   pub actor : b ≡ wanting (tells_from net a.node first) a
   pub count : length new ≡ length old
   pub each : (link : ℕ) → link < length old
-      → board_of new link ≡ (if tells net a.node link && nat_lt link first then next_board (board_of old link) (outgoing net a link) else board_of old link)
+      → board_of new link
+      ≡ (if tells net a.node link && nat_lt link first then next_board (board_of old link) (outgoing net a link)
+      else board_of old link)
 
 -- on each link on which a node tells another one a further version may be published
 abbrev pub MayTell : Net → ℕ → List LinkBoard → Type 0
-MayTell net node boards = (link : ℕ) → link < length boards → IsTrue (tells net node link) → (board_of boards link).version ≤ most_seconds
+MayTell net node boards =
+    (link : ℕ) → link < length boards → IsTrue (tells net node link) → (board_of boards link).version ≤ most_seconds
 
 -- a node may have its turn: what it senses is what its node senses in the round's first second, in which its line goes on
-pub record CanTurn (net : Net) (round node : ℕ) (line : List Green) (sensed : Sensed) (boards : List LinkBoard) : Type 0 where
+pub record CanTurn (net : Net) (round node : ℕ) (line : List Green) (sensed : Sensed)
+    (boards : List LinkBoard) : Type 0 where
   pub node_is : node < length net.node_names
   pub sensed_at : IsSensedAt net (begin_of net round) node sensed
   pub lawful : IsLawful (plan_at net node) line
@@ -67,7 +73,8 @@ pub record HasPlayed (net : Net) (round : ℕ) (sensed : Sensed) (old new : List
 
 -- the state from which a round is under way
 abbrev pub state_of : ℕ → Waiting → Decided → RoundState
-state_of round waiting decided = record { round = round; sensed = waiting.sensed.items; lines = waiting.lines.items; boards = decided.boards.items }
+state_of round waiting decided =
+    record { round = round; sensed = waiting.sensed.items; lines = waiting.lines.items; boards = decided.boards.items }
 
 -- the first node that waits has had its turn
 pub record HasTurned (net : Net) (round node : ℕ) (waits rest : Waiting) (old new : Decided) : Type 0 where
@@ -77,11 +84,13 @@ pub record HasTurned (net : Net) (round node : ℕ) (waits rest : Waiting) (old 
   pub line : List Green
   pub plans_are : new.plans.items ≡ old.plans.items ++ plan ∷ []
   pub lines_are : new.lines.items ≡ old.lines.items ++ line ∷ []
-  pub turn : IsTurn net round node (slice_index_or waits.lines.items 0 []) (slice_index_or waits.sensed.items 0 no_sense) old.boards.items new.boards.items plan line
+  pub turn : IsTurn net round node (slice_index_or waits.lines.items 0 [])
+      (slice_index_or waits.sensed.items 0 no_sense) old.boards.items new.boards.items plan line
   pub later : begin_of net (round + 1) < end_of line
 
 -- the first `nodes` nodes have had their turns
-pub record HaveTurned (net : Net) (state : RoundState) (nodes : ℕ) (waiting : Waiting) (decided : Decided) : Type 0 where
+pub record HaveTurned (net : Net) (state : RoundState) (nodes : ℕ) (waiting : Waiting)
+    (decided : Decided) : Type 0 where
   pub sensed : waiting.sensed.items ≡ drop nodes state.sensed
   pub lines : waiting.lines.items ≡ drop nodes state.lines
   pub made : ℕ → Commitment
@@ -90,4 +99,5 @@ pub record HaveTurned (net : Net) (state : RoundState) (nodes : ℕ) (waiting : 
   pub plans_are : decided.plans.items ≡ map (plan_in net state made) (range_with_len 0 nodes)
   pub lines_are : decided.lines.items ≡ map (λ node. (made node).line) (range_with_len 0 nodes)
   pub count : length decided.boards.items ≡ length state.boards
-  pub boards : (link : ℕ) → link < length state.boards → board_of decided.boards.items link ≡ board_after net state made nodes link
+  pub boards : (link : ℕ) → link < length state.boards
+      → board_of decided.boards.items link ≡ board_after net state made nodes link

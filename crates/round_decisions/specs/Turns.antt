@@ -48,7 +48,8 @@ pub record ArePublished (net : Net) (node : ℕ) (told : ℕ → List Row) (old 
 
 -- A node's turn in a round: from its line, what it senses and what it hears on the old boards, it makes its commit; the plan is
 -- the record of it, the line goes on as it says, and the new boards have what it tells.
-pub record IsTurn (net : Net) (round node : ℕ) (line : List Green) (sensed : Sensed) (old new : List LinkBoard) (plan : PlanRecord) (after : List Green) : Type 0 where
+pub record IsTurn (net : Net) (round node : ℕ) (line : List Green) (sensed : Sensed) (old new : List LinkBoard)
+    (plan : PlanRecord) (after : List Green) : Type 0 where
   pub made : Commitment
   pub commit : IsCommit net node round line sensed (heard_on net (board_of old) node) made
   pub plan_is : plan ≡ record_of node round (heard_on net (board_of old) node) made

@@ -80,7 +80,8 @@ pub record HasDecided (net : Net) (text : List ℕ) (names left : List (List ℕ
   pub whole : all ≡ concat parts
 
 -- a request was answered
-pub record IsAnswered (net : Net) (told : Records) (lines : List (List ℕ)) (last : List ℕ) (answer : List ℕ) (after : Records) : Type 0 where
+pub record IsAnswered (net : Net) (told : Records) (lines : List (List ℕ)) (last : List ℕ) (answer : List ℕ)
+    (after : Records) : Type 0 where
   pub ends : EndsRequest last
   pub is : IsAnswer net told (request_of lines last) answer after
 
@@ -117,15 +118,21 @@ IsPut text out out' (Err _) = ⊥
 
 -- the answer to a request was written, and what is told last is kept; or it could not be written whole
 abbrev pub IsPutFor : Net → Records → Request → KeptRecords → SinkState → SinkState → Result (Unit {0}) Refusal → Type 0
-IsPutFor net told request kept out out' result = (answer : List ℕ) × (after : Records) × IsAnswer net told request answer after × IsPut answer out out' result × OnOk result (AreKept net after kept)
+IsPutFor net told request kept out out' result =
+    (answer : List ℕ) × (after : Records) × IsAnswer net told request answer after × IsPut answer out out' result
+    × OnOk result (AreKept net after kept)
 
 -- A further line was heard: it is one of a state, and is gathered; or it ends a request, whose answer was written, and what is told last is
 -- kept. Or the answer could not be written whole.
-abbrev pub IsHeard : Net → Records → List (List ℕ) → List ℕ → Gathered → KeptRecords → SinkState → SinkState → Result (Unit {0}) Refusal → Type 0
+abbrev pub IsHeard : Net → Records → List (List ℕ) → List ℕ → Gathered → KeptRecords → SinkState → SinkState
+    → Result (Unit {0}) Refusal → Type 0
 IsHeard net told lines line g kept out out' (Ok done) =
     ((¬ EndsRequest line) × IsGathered (lines ++ line ∷ []) g × AreKept net told kept × (out' ≡ out))
-    ⊎ (IsGathered [] g × ((answer : List ℕ) × (after : Records) × IsAnswered net told lines line answer after × AreKept net after kept × Gains out out' answer))
-IsHeard net told lines line g kept out out' (Err refusal.Unwritten) = (answer : List ℕ) × (after : Records) × IsAnswered net told lines line answer after × Breaks out out' answer
+    ⊎ (IsGathered [] g
+    × ((answer : List ℕ) × (after : Records) × IsAnswered net told lines line answer after × AreKept net after kept
+    × Gains out out' answer))
+IsHeard net told lines line g kept out out' (Err refusal.Unwritten) =
+    (answer : List ℕ) × (after : Records) × IsAnswered net told lines line answer after × Breaks out out' answer
 IsHeard net told lines line g kept out out' (Err _) = ⊥
 
 -- how all requests were answered, or why not all were
@@ -147,7 +154,8 @@ IsUntaken old new (refusal.Unread Second) = new.faults ≡ one_more old.faults
 IsUntaken old new _ = ⊥
 
 -- how the serving of a network ended
-abbrev pub EndsServing : Net → SourceState → SourceState → SinkState → SinkState → SinkState → SinkState → Status → Type 0
+abbrev pub EndsServing : Net → SourceState → SourceState → SinkState → SinkState → SinkState → SinkState → Status
+    → Type 0
 EndsServing net from to out out' err err' status =
     ((status ≡ Done) × IsServed net from to out out' × (err' ≡ err))
     ⊎ ((status ≡ ReadFault) × IsCutOff net from to out out' × Says (refusal.Unread Second) err err')
@@ -161,7 +169,8 @@ pub record IsFirstComma (bytes : List ℕ) (place : ℕ) : Type 0 where
   pub before : All (λ byte. byte ≢ 44) (take place bytes)
 
 -- the requests that came so far are answered, the lines after them are gathered, and what is told last is kept
-pub record IsServing (net : Net) (from now : SourceState) (out out' : SinkState) (g : Gathered) (kept : KeptRecords) (count : ℕ) : Type 0 where
+pub record IsServing (net : Net) (from now : SourceState) (out out' : SinkState) (g : Gathered) (kept : KeptRecords)
+    (count : ℕ) : Type 0 where
   pub lines : List (List ℕ)
   pub others : List (List ℕ)
   pub answers : List (List ℕ)

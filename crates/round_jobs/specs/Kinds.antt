@@ -17,7 +17,14 @@ IsBadState net asked text fault = IsTextFault net asked text fault × (fault ≢
 
 -- the kind of texts that say the state in which a round of a network begins, for these nodes
 abbrev pub AskedText : Net → Asked → Kind
-AskedText net asked = record { Said = RoundState; Fault = StateFault; is_text = IsStateText net asked; is_fault = IsBadState net asked; code = state_code }
+AskedText net asked =
+    record {
+      Said = RoundState;
+      Fault = StateFault;
+      is_text = IsStateText net asked;
+      is_fault = IsBadState net asked;
+      code = state_code;
+    }
 
 -- the kind of those where all nodes are asked, and of those for a node alone
 abbrev pub StateText : Net → Kind

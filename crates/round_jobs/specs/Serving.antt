@@ -53,7 +53,14 @@ IsBadNext net told text fault = IsTextFaultWith net asked.AllNodes told text fau
 
 -- the kind of texts that tell the state in which a round begins where these records come after their own
 abbrev pub NextText : Net → Records → Kind
-NextText net told = record { Said = RoundState; Fault = StateFault; is_text = IsStateTextWith net asked.AllNodes told; is_fault = IsBadNext net told; code = state_code }
+NextText net told =
+    record {
+      Said = RoundState;
+      Fault = StateFault;
+      is_text = IsStateTextWith net asked.AllNodes told;
+      is_fault = IsBadNext net told;
+      code = state_code;
+    }
 
 -- what `decide` writes of the state that a text tells where these records come after its own
 pub record IsDecidedNext (net : Net) (told : Records) (text bytes : List ℕ) : Type 0 where
@@ -66,7 +73,8 @@ pub record IsDecidedNext (net : Net) (told : Records) (text bytes : List ℕ) : 
 abbrev pub IsDecidedFor : Net → Records → List ℕ → Asks → List ℕ → Type 0
 IsDecidedFor net told text OfAll bytes = IsDecided net text bytes
 IsDecidedFor net told text OfNext bytes = IsDecidedNext net told text bytes
-IsDecidedFor net told text (OfNames names) bytes = (parts : List (List ℕ)) × AllZip (IsNodeDecided net text) names parts × (bytes ≡ concat parts)
+IsDecidedFor net told text (OfNames names) bytes =
+    (parts : List (List ℕ)) × AllZip (IsNodeDecided net text) names parts × (bytes ≡ concat parts)
 
 -- the records that are told last after what was decided: of all nodes its own, but for the header; of nodes by themselves those of before
 abbrev pub AreToldBy : Records → Asks → List ℕ → Records → Type 0
@@ -85,7 +93,8 @@ IsRefused kind text _ = ⊥
 -- why `decide` refuses a state's text of which it asks the node with this name: the text, or the name
 abbrev pub IsNodeRefused : Net → List ℕ → List ℕ → Refusal → Type 0
 IsNodeRefused net text name (refusal.Bad Second code) = IsUnread (node_state_of name net) text code.items
-IsNodeRefused net text name (refusal.Missing Node) = (state : RoundState) × IsReadAs (node_state_of name net) text state × (number_of net.node_names name ≡ None)
+IsNodeRefused net text name (refusal.Missing Node) =
+    (state : RoundState) × IsReadAs (node_state_of name net) text state × (number_of net.node_names name ≡ None)
 IsNodeRefused net text name _ = ⊥
 
 -- the first of these names of which `decide` refuses the text
@@ -123,13 +132,15 @@ refused_answer why = codes "refused," ++ line_of why ++ end_line
 -- `end`; or why it is refused, and then they are those of before
 abbrev pub IsAnswer : Net → Records → Request → List ℕ → Records → Type 0
 IsAnswer net told request answer after =
-    ((bytes : List ℕ) × IsDecidedFor net told (requests.text_of request) (asked_by request.last) bytes × AreToldBy told (asked_by request.last) bytes after × (answer ≡ bytes ++ end_line))
+    ((bytes : List ℕ) × IsDecidedFor net told (requests.text_of request) (asked_by request.last) bytes
+    × AreToldBy told (asked_by request.last) bytes after × (answer ≡ bytes ++ end_line))
     ⊎ ((why : Refusal) × IsWhy net told request why × (after ≡ told) × (answer ≡ refused_answer why))
 
 -- the answers to requests, one after another, and the records that are told last before and after them
 abbrev pub AreAnswers : Net → Records → List Request → List (List ℕ) → Records → Type 0
 AreAnswers net told [] [] after = after ≡ told
-AreAnswers net told (request ∷ requests) (answer ∷ answers) after = (next : Records) × IsAnswer net told request answer next × AreAnswers net next requests answers after
+AreAnswers net told (request ∷ requests) (answer ∷ answers) after =
+    (next : Records) × IsAnswer net told request answer next × AreAnswers net next requests answers after
 AreAnswers net told _ _ after = ⊥
 
 -- what is answered to lines after the last request, as the source has ended: nothing where there are none, else that they cannot be read
@@ -198,13 +209,18 @@ pub record Serves (net : List ℕ) (old new : Outside) (from to : SourceState) (
   pub usage : status ≢ Usage
   pub rejected : status ≢ Rejected
   -- the network is refused, and the line says why
-  pub bad_input : status ≡ BadInput → (code : List ℕ) × IsBad old.shelf.files code NetworkText net × Writes (bad_line First code) old.err new.err
+  pub bad_input : status ≡ BadInput
+      → (code : List ℕ) × IsBad old.shelf.files code NetworkText net × Writes (bad_line First code) old.err new.err
   -- the network cannot be read, or the source failed, and the line says which
   pub read_fault : status ≡ ReadFault →
-      (GainsLast old.shelf.failed new.shelf.failed net × (to ≡ from) × (new.out ≡ old.out) × Says (refusal.Unread First) old.err new.err)
-      ⊎ (OfNetwork net old (λ network. IsCutOff network from to old.out new.out) × Says (refusal.Unread Second) old.err new.err)
+      (GainsLast old.shelf.failed new.shelf.failed net × (to ≡ from) × (new.out ≡ old.out)
+      × Says (refusal.Unread First) old.err new.err)
+      ⊎ (OfNetwork net old (λ network. IsCutOff network from to old.out new.out)
+      × Says (refusal.Unread Second) old.err new.err)
   -- an answer was not written whole
-  pub write_fault : status ≡ WriteFault → OfNetwork net old (λ network. IsBrokenOff network from to old.out new.out) × Says refusal.Unwritten old.err new.err
+  pub write_fault : status ≡ WriteFault
+      → OfNetwork net old (λ network. IsBrokenOff network from to old.out new.out)
+      × Says refusal.Unwritten old.err new.err
   -- memory ran out before any line came
   pub no_memory : status ≡ NoMemory → Says refusal.NoMemory old.err new.err
   -- nothing else changes the shelf, the source, out or err, and nothing the shelf's files
@@ -214,8 +230,11 @@ pub record Serves (net : List ℕ) (old new : Outside) (from to : SourceState) (
   pub out : (status ≡ BadInput) ⊎ (status ≡ NoMemory) → new.out ≡ old.out
   pub err : status ≡ Done → new.err ≡ old.err
   -- a network that the shelf tells, and that is read as none, is refused
-  pub refused : (text : List ℕ) → text_of old.shelf.files net ≡ Some text → ((network : Net) → ¬ Reads NetworkText text network)
+  pub refused : (text : List ℕ) → text_of old.shelf.files net ≡ Some text
+      → ((network : Net) → ¬ Reads NetworkText text network)
       → new.shelf ≡ old.shelf → (status ≡ BadInput) ⊎ (status ≡ NoMemory)
   -- where nothing is wrong and nothing failed, all requests are answered
-  pub complete : (text : List ℕ) → text_of old.shelf.files net ≡ Some text → (network : Net) → Reads NetworkText text network
-      → new.shelf ≡ old.shelf → ¬ Rose from.faults to.faults → ¬ Rose old.out.faults new.out.faults → (status ≡ Done) ⊎ (status ≡ NoMemory)
+  pub complete : (text : List ℕ) → text_of old.shelf.files net ≡ Some text → (network : Net)
+      → Reads NetworkText text network
+      → new.shelf ≡ old.shelf → ¬ Rose from.faults to.faults → ¬ Rose old.out.faults new.out.faults
+      → (status ≡ Done) ⊎ (status ≡ NoMemory)

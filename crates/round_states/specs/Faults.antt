@@ -64,19 +64,23 @@ AllBeginSoon net es = (n : ℕ) → n < length net.node_names → BeginSoon es n
 -- why what is told as it must be can be no state for these nodes: the first of these, at the least link or node
 abbrev pub IsLimitFault : Net → Asked → List Entry → StateFault → Type 0
 IsLimitFault net asked es (Stood link) = IsFirstWithout (StoodInTime es) (length net.link_names) link
-IsLimitFault net asked es (Late node) = AllStoodInTime net es × IsFirstWithout (BeginSoon es) (length net.node_names) node
-IsLimitFault net asked es (Told link) = AllStoodInTime net es × AllBeginSoon net es × IsFirstWithout (IsUntold net asked es) (length net.link_names) link
+IsLimitFault net asked es (Late node) =
+    AllStoodInTime net es × IsFirstWithout (BeginSoon es) (length net.node_names) node
+IsLimitFault net asked es (Told link) =
+    AllStoodInTime net es × AllBeginSoon net es × IsFirstWithout (IsUntold net asked es) (length net.link_names) link
 IsLimitFault net asked es _ = ⊥
 
 -- why what records tell is no state for these nodes, where they are read and stand in order: the first of these, at the least link or node
 abbrev pub IsEntryFault : Net → Asked → List Entry → StateFault → Type 0
 IsEntryFault net asked es NoMemory = Unit {0}
 IsEntryFault net asked es (Sense link) = IsFirstWithout (IsSensedOnce es) (length net.link_names) link
-IsEntryFault net asked es (Board link) = AreSensedOnce net es × IsFirstWithout (IsBoardOnce net es) (length net.link_names) link
+IsEntryFault net asked es (Board link) =
+    AreSensedOnce net es × IsFirstWithout (IsBoardOnce net es) (length net.link_names) link
 IsEntryFault net asked es (Line node) =
     AreSensedOnce net es × AreBoardsOnce net es × IsFirstWithout (GoesOn net asked es) (length net.node_names) node
 IsEntryFault net asked es (Sum node) =
-    AreSensedOnce net es × AreBoardsOnce net es × AllGoOn net asked es × IsFirstWithout (SensesFew net es) (length net.node_names) node
+    AreSensedOnce net es × AreBoardsOnce net es × AllGoOn net asked es
+    × IsFirstWithout (SensesFew net es) (length net.node_names) node
 IsEntryFault net asked es fault = AreTold net asked es × IsLimitFault net asked es fault
 
 -- what each fault says of a text

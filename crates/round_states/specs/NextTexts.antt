@@ -41,4 +41,5 @@ IsStateTextWith net asked told bytes state = AreRecordsOf (form net asked) (reco
 
 -- the first fault of a text that tells no state for these nodes where these records come after its own
 abbrev pub IsTextFaultWith : Net → Asked → List (List (List ℕ)) → List ℕ → StateFault → Type 0
-IsTextFaultWith net asked told bytes fault = AreRefusedFor (form net asked) (records_of bytes ++ told) (cause_of net asked fault)
+IsTextFaultWith net asked told bytes fault =
+    AreRefusedFor (form net asked) (records_of bytes ++ told) (cause_of net asked fault)

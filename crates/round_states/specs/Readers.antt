@@ -35,7 +35,9 @@ HasRead net records taker = AreReadAs (parse_in net) (AreInOrder net) records ta
 
 -- the record with this number tells nothing, or what it tells cannot be added
 abbrev pub IsFaultAt : Net → StateReader → List (List ℕ) → ℕ → StateFault → Type 0
-IsFaultAt net taker fields number fault = Reads net fields number (Err fault) ⊎ ((e : Entry) × (parse_in net fields ≡ Some e) × (new : StateReader) × Adds net e number taker new (Err fault))
+IsFaultAt net taker fields number fault =
+    Reads net fields number (Err fault)
+    ⊎ ((e : Entry) × (parse_in net fields ≡ Some e) × (new : StateReader) × Adds net e number taker new (Err fault))
 
 -- why what records tell, and then those that were told, is no state for these nodes: there is none of the text, so the first that was told
 -- would have to say when the round begins; or all stand in order, and what they tell is none
@@ -53,7 +55,8 @@ abbrev pub with_said : {X : Type 0} → ℕ → Option X → List (List X) → L
 with_said place content lists = slice_set lists place (slice_index_or lists place [] ++ cons_option content [])
 
 -- of each place below this number there is a list of all that records say of it
-pub record HasAllSaid {X Z : Type 0} (of : StateRecord → Option X) (es : List Entry) (count : ℕ) (all : List (Vec X Z)) : Type 0 where
+pub record HasAllSaid {X Z : Type 0} (of : StateRecord → Option X) (es : List Entry) (count : ℕ)
+    (all : List (Vec X Z)) : Type 0 where
   pub count_is : length all ≡ count
   pub each : (place : ℕ) → place < count → slice_index_or (lists_of all) place [] ≡ all_said of es place
 

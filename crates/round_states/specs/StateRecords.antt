@@ -98,7 +98,8 @@ parse_in net fields = do
 
 -- the record of a row of a node's timeline
 abbrev pub green_record : Net → ℕ → Green → List (List ℕ)
-green_record net node green = codes "green" ∷ node_name_at net node ∷ decimal green.phase ∷ decimal green.from ∷ decimal green.to ∷ []
+green_record net node green =
+    codes "green" ∷ node_name_at net node ∷ decimal green.phase ∷ decimal green.from ∷ decimal green.to ∷ []
 
 -- the record of a link's version, and that of a row of its forecast
 abbrev pub version_record : Net → ℕ → ℕ → List (List ℕ)

@@ -61,9 +61,12 @@ pub record IsBoard (round : ℕ) (board : LinkBoard) : Type 0 where
 pub record IsStateOf (net : Net) (asked : Asked) (state : RoundState) : Type 0 where
   pub round : begin_of net state.round < known_seconds net
   pub sensed_count : length state.sensed ≡ length net.node_names
-  pub sensed : (n : ℕ) → n < length net.node_names → IsSensedAt net (begin_of net state.round) n (slice_index_or state.sensed n no_sense)
+  pub sensed : (n : ℕ) → n < length net.node_names
+      → IsSensedAt net (begin_of net state.round) n (slice_index_or state.sensed n no_sense)
   pub line_count : length state.lines ≡ length net.node_names
-  pub lines : (n : ℕ) → n < length net.node_names → IsAsked asked n → IsLineAt (plan_at net n) (begin_of net state.round) (slice_index_or state.lines n [])
-  pub soon : (n : ℕ) → n < length net.node_names → BeginBy (begin_of net state.round + farthest_begin) (slice_index_or state.lines n [])
+  pub lines : (n : ℕ) → n < length net.node_names → IsAsked asked n
+      → IsLineAt (plan_at net n) (begin_of net state.round) (slice_index_or state.lines n [])
+  pub soon : (n : ℕ) → n < length net.node_names
+      → BeginBy (begin_of net state.round + farthest_begin) (slice_index_or state.lines n [])
   pub board_count : length state.boards ≡ length net.link_names
   pub boards : All (IsBoard state.round) state.boards

@@ -70,7 +70,12 @@ coming_in es link now travel = map (amount_at (all_said coming_said es link)) (r
 -- what is sensed of a link, and at a node of its entry links
 abbrev pub sense_in : Net → List Entry → ℕ → LinkSense
 sense_in net es link =
-    record { link = link; queue = (queue_in es link).amount; coming = coming_in es link (now_of es) (link_at net link).travel; stood = (queue_in es link).stood }
+    record {
+      link = link;
+      queue = (queue_in es link).amount;
+      coming = coming_in es link (now_of es) (link_at net link).travel;
+      stood = (queue_in es link).stood;
+    }
 
 abbrev pub sensed_in : Net → List Entry → ℕ → Sensed
 sensed_in net es node = record { now = now_of es; links = map (sense_in net es) (entry_links net node) }
@@ -104,7 +109,9 @@ pub record IsBoardOnce (net : Net) (es : List Entry) (link : ℕ) : Type 0 where
 
 -- the greens of a node are its timeline as the round begins, where it is to have its turn or has any
 abbrev pub GoesOn : Net → Asked → List Entry → ℕ → Type 0
-GoesOn net asked es node = IsAsked asked node ⊎ (0 < length (all_said green_said es node)) → IsLineAt (plan_at net node) (now_of es) (all_said green_said es node)
+GoesOn net asked es node =
+    IsAsked asked node ⊎ (0 < length (all_said green_said es node))
+    → IsLineAt (plan_at net node) (now_of es) (all_said green_said es node)
 
 -- a queue has stood for no more seconds than it can have by a second: none where there is no queue, and no more than there were
 pub record CanHaveStood (now : ℕ) (queue : Queue) : Type 0 where

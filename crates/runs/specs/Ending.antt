@@ -27,7 +27,8 @@ lines_in actors = map (λ (a : Acting). a.line) actors
 
 -- The record of these plans, actors and world: the plans, and after them those that the actors have; the timelines of the actors; and
 -- what the world has counted.
-pub record IsRecordOf (net : Net) (planned : List PlanRecord) (actors : List Acting) (world : WorldState) (run : RunRecord) : Type 0 where
+pub record IsRecordOf (net : Net) (planned : List PlanRecord) (actors : List Acting) (world : WorldState)
+    (run : RunRecord) : Type 0 where
   pub plans : run.plans ≡ planned ++ records_in actors
   pub timelines : run.timelines ≡ lines_in actors
   pub links : run.links ≡ map (counts_at world.counts) (range_with_len 0 (length net.link_names))

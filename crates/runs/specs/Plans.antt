@@ -24,12 +24,15 @@ pub record IsOfPlace (net : Net) (history : List ℕ) (place : ℕ) (plan : Plan
 -- history: how often it was published before.
 pub record NamesVersions (net : Net) (history : List ℕ) (plan : PlanRecord) : Type 0 where
   pub links : map (λ (u : Used). u.link) plan.used ≡ heard_links net plan.node
-  pub versions : (place link : ℕ) → place < length history → IsOfPlace net history place plan → step_at (board_steps net) history place ≡ Read link
+  pub versions : (place link : ℕ) → place < length history → IsOfPlace net history place plan
+      → step_at (board_steps net) history place ≡ Read link
       → Contains plan.used (record { link = link; version = version_at (board_steps net) history link place })
 
 -- No plan uses an older version of a link than an earlier plan of its node.
 abbrev pub NeverOlder : List PlanRecord → Type 0
-NeverOlder plans = (early late : PlanRecord) (before now : Used) → Contains plans early → Contains plans late → early.node ≡ late.node → early.round < late.round
+NeverOlder plans =
+    (early late : PlanRecord) (before now : Used) → Contains plans early → Contains plans late → early.node ≡ late.node
+    → early.round < late.round
     → Contains early.used before → Contains late.used now → before.link ≡ now.link → before.version ≤ now.version
 
 -- what a plan heard: the versions that it names, with the forecasts that were published as these versions
@@ -38,8 +41,10 @@ heard_by net made plan = map (λ (u : Used). hearing net made u.link u.version) 
 
 -- The instance of a plan is that of just the versions that it names: it is what the node has to plan, from its line when the round
 -- begins, from what it senses then, and from the forecasts of those versions.
-pub record IsPlannedFrom (net : Net) (arriving : ℕ → ℕ → ℕ) (made : ℕ → ℕ → Commitment) (plan : PlanRecord) : Type 0 where
+pub record IsPlannedFrom (net : Net) (arriving : ℕ → ℕ → ℕ) (made : ℕ → ℕ → Commitment)
+    (plan : PlanRecord) : Type 0 where
   pub head : Head
   pub platoons : List (List Platoon)
   pub window : Window
-  pub instance : IsProblemOf net plan.node (line_before net made plan.round plan.node) (sensed_in net arriving made plan.round plan.node) (heard_by net made plan) head platoons window plan.instance
+  pub instance : IsProblemOf net plan.node (line_before net made plan.round plan.node)
+      (sensed_in net arriving made plan.round plan.node) (heard_by net made plan) head platoons window plan.instance

@@ -29,15 +29,18 @@ last_line run node = slice_index_or run.timelines node []
 -- together;
 -- `signs`: in each second of the run these timelines show the same signs as those by which the vehicles moved;
 -- `waits`: each queue of a link without a walk, of a phase that has a bound, loses something within it.
-pub record KeepsPromises (net : Net) (arriving : ℕ → ℕ → ℕ) (history : List ℕ) (made : ℕ → ℕ → Commitment) (run : RunRecord) : Type 0 where
+pub record KeepsPromises (net : Net) (arriving : ℕ → ℕ → ℕ) (history : List ℕ) (made : ℕ → ℕ → Commitment)
+    (run : RunRecord) : Type 0 where
   pub named : All (NamesVersions net history) run.plans
   pub newer : NeverOlder run.plans
   pub planned : All (IsPlannedFrom net arriving made) run.plans
   pub least : All (λ plan. IsLeast plan.instance plan.answer) run.plans
   pub lawful : (node : ℕ) → node < length net.node_names → IsLawful (plan_at net node) (last_line run node)
   pub safe : IsSafe net (last_line run)
-  pub signs : (second node : ℕ) → second < end_of_run net → node < length net.node_names → sign_at (last_line run node) second ≡ shown_by net made second node
-  pub waits : AreWaitsWithin net (planned_bounds net) (cumulative_by net arriving made (end_of_run net)) (end_of_run net)
+  pub signs : (second node : ℕ) → second < end_of_run net → node < length net.node_names
+      → sign_at (last_line run node) second ≡ shown_by net made second node
+  pub waits : AreWaitsWithin net (planned_bounds net) (cumulative_by net arriving made (end_of_run net))
+      (end_of_run net)
 
 -- the run of a history, with all that it keeps
 pub record IsKeptRun (net : Net) (arriving : ℕ → ℕ → ℕ) (history : List ℕ) (record_of_run : RunRecord) : Type 0 where

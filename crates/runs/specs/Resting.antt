@@ -34,6 +34,7 @@ pub record Rests (net : Net) (made : ℕ → ℕ → Commitment) (round node : �
 
 -- A list has the plans of the first `rounds` rounds, and capacity for those of all, where `heard round node` is what a node has heard
 -- in a round, and `made round node` is its commit.
-pub record HasPlans (net : Net) (heard : ℕ → ℕ → List Heard) (made : ℕ → ℕ → Commitment) (rounds : ℕ) (plans : Vec PlanRecord) : Type 0 where
+pub record HasPlans (net : Net) (heard : ℕ → ℕ → List Heard) (made : ℕ → ℕ → Commitment) (rounds : ℕ)
+    (plans : Vec PlanRecord) : Type 0 where
   pub done : plans.items ≡ plans_of net heard made rounds
   pub capacity : net.run.rounds * length net.node_names ≤ vec_capacity plans

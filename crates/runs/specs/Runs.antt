@@ -43,11 +43,14 @@ cumulative_by net arriving made n = cumulative_under net arriving (shown_by net 
 
 -- what a node senses when a round begins
 abbrev pub sensed_in : Net → (ℕ → ℕ → ℕ) → (ℕ → ℕ → Commitment) → ℕ → ℕ → Sensed
-sensed_in net arriving made round node = sense net (cumulative_by net arriving made (round * net.run.step)) (round * net.run.step) node
+sensed_in net arriving made round node =
+    sense net (cumulative_by net arriving made (round * net.run.step)) (round * net.run.step) node
 
 -- what a commit of a round tells on a link
 abbrev pub told_in : Net → ℕ → ℕ → Commitment → List Row
-told_in net round link c = told_forecast net link (round * net.run.step) (departures c.window.lists (counts_of c.window.lists) (phases_of c.answer) c.served)
+told_in net round link c =
+    told_forecast net link (round * net.run.step)
+    (departures c.window.lists (counts_of c.window.lists) (phases_of c.answer) c.served)
 
 -- the forecast of a version of a link: version 0 is the empty one, and version k + 1 is what the commit in round k of the node that
 -- publishes on the link tells
@@ -61,17 +64,21 @@ hearing net made link version = record { link = link; version = version; forecas
 
 -- A node commits in a round: it has heard each link on which it hears another node, in their order, and its commit is made from
 -- its line before the round, from what it senses when the round begins, and from what it has heard.
-pub record Commits (net : Net) (arriving : ℕ → ℕ → ℕ) (heard : ℕ → ℕ → List Heard) (made : ℕ → ℕ → Commitment) (round node : ℕ) : Type 0 where
+pub record Commits (net : Net) (arriving : ℕ → ℕ → ℕ) (heard : ℕ → ℕ → List Heard) (made : ℕ → ℕ → Commitment)
+    (round node : ℕ) : Type 0 where
   pub links : IsHeardOf net node (heard round node)
-  pub commit : IsCommit net node round (line_before net made round node) (sensed_in net arriving made round node) (heard round node) (made round node)
+  pub commit : IsCommit net node round (line_before net made round node) (sensed_in net arriving made round node)
+      (heard round node) (made round node)
 
 -- each node of the network commits in each of the first `rounds` rounds
 abbrev pub AllCommit : Net → (ℕ → ℕ → ℕ) → (ℕ → ℕ → List Heard) → (ℕ → ℕ → Commitment) → ℕ → Type 0
-AllCommit net arriving heard made rounds = (round node : ℕ) → round < rounds → node < length net.node_names → Commits net arriving heard made round node
+AllCommit net arriving heard made rounds =
+    (round node : ℕ) → round < rounds → node < length net.node_names → Commits net arriving heard made round node
 
 -- the plan records of a round, one for each node, in the order of the nodes
 abbrev pub plans_in : Net → (ℕ → ℕ → List Heard) → (ℕ → ℕ → Commitment) → ℕ → List PlanRecord
-plans_in net heard made round = map (λ node. record_of node round (heard round node) (made round node)) (range_with_len 0 (length net.node_names))
+plans_in net heard made round =
+    map (λ node. record_of node round (heard round node) (made round node)) (range_with_len 0 (length net.node_names))
 
 -- the plan records of the first `rounds` rounds, round after round, and in each by node
 abbrev pub plans_of : Net → (ℕ → ℕ → List Heard) → (ℕ → ℕ → Commitment) → ℕ → List PlanRecord
@@ -79,18 +86,23 @@ plans_of net heard made rounds = flat_map (plans_in net heard made) (range_with_
 
 -- The record of a run in which the nodes hear this: they commit in all rounds; it has their plan records by round and node, the
 -- last line of each node, and what the world has counted of each link and in all when the last round is over.
-pub record IsRunBy (net : Net) (arriving : ℕ → ℕ → ℕ) (heard : ℕ → ℕ → List Heard) (made : ℕ → ℕ → Commitment) (run : RunRecord) : Type 0 where
+pub record IsRunBy (net : Net) (arriving : ℕ → ℕ → ℕ) (heard : ℕ → ℕ → List Heard) (made : ℕ → ℕ → Commitment)
+    (run : RunRecord) : Type 0 where
   pub commits : AllCommit net arriving heard made net.run.rounds
   pub plans : run.plans ≡ plans_of net heard made net.run.rounds
   pub timelines : run.timelines ≡ map (line_before net made net.run.rounds) (range_with_len 0 (length net.node_names))
-  pub links : run.links ≡ map (link_totals net (cumulative_by net arriving made (end_of_run net)) (end_of_run net)) (range_with_len 0 (length net.link_names))
+  pub links : run.links
+      ≡ map (link_totals net (cumulative_by net arriving made (end_of_run net)) (end_of_run net))
+      (range_with_len 0 (length net.link_names))
   pub all : run.totals ≡ totals net arriving (cumulative_by net arriving made (end_of_run net)) (end_of_run net)
 
 -- The nodes hear along a history: at each place where a node reads a link, it hears the version that the link has there, with the
 -- forecast that was published as that version.
 abbrev pub HearAlong : Net → List ℕ → (ℕ → ℕ → List Heard) → (ℕ → ℕ → Commitment) → Type 0
-HearAlong net history heard made = (place link : ℕ) → place < length history → step_at (board_steps net) history place ≡ Read link
-    → Contains (heard (round_at (board_steps net) history place) (slice_index history place)) (hearing net made link (version_at (board_steps net) history link place))
+HearAlong net history heard made =
+    (place link : ℕ) → place < length history → step_at (board_steps net) history place ≡ Read link
+    → Contains (heard (round_at (board_steps net) history place) (slice_index history place))
+    (hearing net made link (version_at (board_steps net) history link place))
 
 -- The run of a history: its record is that of a run in which the nodes hear along the history.
 pub record IsRun (net : Net) (arriving : ℕ → ℕ → ℕ) (history : List ℕ) (run : RunRecord) : Type 0 where

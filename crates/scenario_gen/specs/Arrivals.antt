@@ -28,11 +28,14 @@ row_by second link word = if word % 10 == 0 then record { second = second; link 
 
 -- In a second one word is drawn for each source, in their order.
 abbrev pub rows_of_second : ℕ → List ℕ → Lcg → List ArrivalRow
-rows_of_second second entered g = flat_map (λ place. row_by second (slice_index entered place) (word g place)) (range_with_len 0 (length entered))
+rows_of_second second entered g =
+    flat_map (λ place. row_by second (slice_index entered place) (word g place)) (range_with_len 0 (length entered))
 
 -- The words of a second come after those of all seconds before it. There are 5 seconds for each round.
 abbrev pub rows_from : Lcg → List ℕ → ℕ → List ArrivalRow
-rows_from g entered seconds = flat_map (λ second. rows_of_second second entered (after_words g (second * length entered))) (range_with_len 0 seconds)
+rows_from g entered seconds =
+    flat_map (λ second. rows_of_second second entered (after_words g (second * length entered)))
+    (range_with_len 0 seconds)
 
 abbrev pub rows : ℕ → ℕ → Net → List ArrivalRow
 rows number rounds net = rows_from (generator number) (sources net) (5 * rounds)

@@ -36,11 +36,23 @@ turn node direction share = record { exit = road_name (leaving_by node direction
 
 abbrev pub turns_from : Option ℕ → Direction → List DraftTurn
 turns_from None from = []
-turns_from (Some node) from = turn node (opposite from) 700 ∷ turn node (clockwise from) 150 ∷ turn node (opposite (clockwise from)) 150 ∷ []
+turns_from (Some node) from =
+    turn node (opposite from) 700 ∷ turn node (clockwise from) 150 ∷ turn node (opposite (clockwise from)) 150 ∷ []
 
 -- a link is 15 seconds long, and 500 thousandths of a vehicle leave it in a second at the most; each counts once; it gives way to none
 abbrev pub link : ℕ → Road → DraftLink
-link side r = record { name = road_name r; from = option_map node_name (begin_of r); to = option_map node_name (end_of side r); travel = 15; sat = 500; weight = 1; yields = None; walk = None; turns = turns_from (end_of side r) (side_of r) }
+link side r =
+    record {
+      name = road_name r;
+      from = option_map node_name (begin_of r);
+      to = option_map node_name (end_of side r);
+      travel = 15;
+      sat = 500;
+      weight = 1;
+      yields = None;
+      walk = None;
+      turns = turns_from (end_of side r) (side_of r);
+    }
 
 -- the phases of each node are alike, but for the links that they serve
 abbrev pub usual : Phase
@@ -50,7 +62,12 @@ abbrev pub phase : List Road → DraftPhase
 phase served = record { phase = usual; links = map road_name served; also = [] }
 
 abbrev pub node : ℕ → ℕ → DraftNode
-node side k = record { name = node_name k; phases = phase (phase_roads side k 0) ∷ phase (phase_roads side k 1) ∷ []; free_ring = false }
+node side k =
+    record {
+      name = node_name k;
+      phases = phase (phase_roads side k 0) ∷ phase (phase_roads side k 1) ∷ [];
+      free_ring = false;
+    }
 
 -- the conflicts of a node: each link of phase 0 with each of phase 1
 abbrev pub conflict : Road → Road → DraftConflict
@@ -64,8 +81,27 @@ conflicts side k = conflicts_of (phase_roads side k 0) (phase_roads side k 1)
 
 -- the run: rounds of 5 seconds that look 60 seconds ahead, with gaps of at most 2, and none of the keys that may be absent
 abbrev pub run : ℕ → Run
-run rounds = record { step = 5; look = 60; gap = 2; rounds = rounds; split = false; age = None; hold = None; recall = None; act_step = None; rate = None }
+run rounds =
+    record {
+      step = 5;
+      look = 60;
+      gap = 2;
+      rounds = rounds;
+      split = false;
+      age = None;
+      hold = None;
+      recall = None;
+      act_step = None;
+      rate = None;
+    }
 
 -- the grid with `side` nodes a side, for `rounds` rounds
 abbrev pub grid_draft : ℕ → ℕ → Draft
-grid_draft side rounds = record { run = run rounds; nodes = map (node side) (nodes side); links = map (link side) (roads side); conflicts = flat_map (conflicts side) (nodes side); great = false }
+grid_draft side rounds =
+    record {
+      run = run rounds;
+      nodes = map (node side) (nodes side);
+      links = map (link side) (roads side);
+      conflicts = flat_map (conflicts side) (nodes side);
+      great = false;
+    }

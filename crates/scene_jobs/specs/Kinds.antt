@@ -33,4 +33,11 @@ IsBadArrivals net text fault = arrivals.IsTextFault net text fault × (fault ≢
 
 -- the kind of texts that say what enters each link of a network in each second
 abbrev pub ArrivalsText : Net → Kind
-ArrivalsText net = record { Said = ℕ → ℕ → ℕ; Fault = RowFault; is_text = IsBroughtBy net; is_fault = IsBadArrivals net; code = row_code }
+ArrivalsText net =
+    record {
+      Said = ℕ → ℕ → ℕ;
+      Fault = RowFault;
+      is_text = IsBroughtBy net;
+      is_fault = IsBadArrivals net;
+      code = row_code;
+    }

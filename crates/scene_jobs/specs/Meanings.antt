@@ -13,7 +13,8 @@ two_texts kind net second = Next NetworkText net (λ network. Next (kind network
 -- a network's text, one of arrivals at it, and one of a kind that holds the network
 abbrev pub three_texts : (Net → Kind) → List ℕ → List ℕ → List ℕ → Texts
 three_texts kind net arr third =
-    Next NetworkText net (λ network. Next (ArrivalsText network) arr (λ arriving. Next (kind network) third (λ said. NoMore)))
+    Next NetworkText net
+    (λ network. Next (ArrivalsText network) arr (λ arriving. Next (kind network) third (λ said. NoMore)))
 
 -- a command that writes this of a network
 abbrev pub over_network : (Net → List ℕ → Type 0) → List ℕ → Meaning
@@ -24,9 +25,13 @@ abbrev pub over_scene : (Net → (ℕ → ℕ → ℕ) → List ℕ → Type 0) 
 over_scene writes net arr = writer (two_texts ArrivalsText net arr) (λ said bytes. writes said.0 said.1.0 bytes)
 
 -- a command that writes this of a network and of what a second text says of it
-abbrev pub over_network_with : (kind : Net → Kind) → ((net : Net) → (kind net).Said → List ℕ → Type 0) → List ℕ → List ℕ → Meaning
-over_network_with kind writes net second = writer (two_texts kind net second) (λ said bytes. writes said.0 said.1.0 bytes)
+abbrev pub over_network_with : (kind : Net → Kind) → ((net : Net) → (kind net).Said → List ℕ → Type 0) → List ℕ → List ℕ
+    → Meaning
+over_network_with kind writes net second =
+    writer (two_texts kind net second) (λ said bytes. writes said.0 said.1.0 bytes)
 
 -- a command that writes this of a network, of what enters it and of what a third text says of it
-abbrev pub over_scene_with : (kind : Net → Kind) → ((net : Net) → (ℕ → ℕ → ℕ) → (kind net).Said → List ℕ → Type 0) → List ℕ → List ℕ → List ℕ → Meaning
-over_scene_with kind writes net arr third = writer (three_texts kind net arr third) (λ said bytes. writes said.0 said.1.0 said.1.1.0 bytes)
+abbrev pub over_scene_with : (kind : Net → Kind) → ((net : Net) → (ℕ → ℕ → ℕ) → (kind net).Said → List ℕ → Type 0)
+    → List ℕ → List ℕ → List ℕ → Meaning
+over_scene_with kind writes net arr third =
+    writer (three_texts kind net arr third) (λ said bytes. writes said.0 said.1.0 said.1.1.0 bytes)

@@ -35,5 +35,6 @@ IsBest p answer = IsBestAmong p (orders (counts_of p.lists)) answer
 -- No sequence has less delay than this answer. A plan is feasible with the delay that it claims, and no other list of phases has
 -- less; with no plan none is feasible.
 abbrev pub IsLeast : Problem → Answer → Type 0
-IsLeast p (Plan sequence delay) = (delay_of p sequence ≡ Some delay) × ((s : List ℕ) → IfSome (delay_of p s) (λ d. delay ≤ d))
+IsLeast p (Plan sequence delay) =
+    (delay_of p sequence ≡ Some delay) × ((s : List ℕ) → IfSome (delay_of p s) (λ d. delay ≤ d))
 IsLeast p NoPlan = (s : List ℕ) → delay_of p s ≡ None

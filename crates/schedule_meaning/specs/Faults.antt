@@ -30,16 +30,19 @@ IsHeadFault plan head _ = ⊥
 
 -- the first list with a cluster out of bounds, from 0, and the number of the first such cluster in it, from 1
 abbrev pub IsBoundFault : List (List Cluster) → InstanceFault → Type 0
-IsBoundFault lists (ClusterBound phase place) = IsFirstAt (All IsCluster) (λ list. FromOne (IsFirstNot IsCluster list) place) lists phase
+IsBoundFault lists (ClusterBound phase place) =
+    IsFirstAt (All IsCluster) (λ list. FromOne (IsFirstNot IsCluster list) place) lists phase
 IsBoundFault lists _ = ⊥
 
 -- the cluster at this index, where one stands before it, does not arrive before that one has arrived whole
 abbrev pub IsSpacedAt : List Cluster → ℕ → Type 0
-IsSpacedAt list index = 1 ≤ index → (cluster_at list (index - 1)).arr + (cluster_at list (index - 1)).len ≤ (cluster_at list index).arr
+IsSpacedAt list index =
+    1 ≤ index → (cluster_at list (index - 1)).arr + (cluster_at list (index - 1)).len ≤ (cluster_at list index).arr
 
 -- the first list that is not spaced, from 0, and the number of the first cluster in it that arrives too early, from 1
 abbrev pub IsOrderFault : List (List Cluster) → InstanceFault → Type 0
-IsOrderFault lists (Order phase place) = IsFirstAt IsSpaced (λ list. FromOne (IsFirstWithout (IsSpacedAt list) (length list)) place) lists phase
+IsOrderFault lists (Order phase place) =
+    IsFirstAt IsSpaced (λ list. FromOne (IsFirstWithout (IsSpacedAt list) (length list)) place) lists phase
 IsOrderFault lists _ = ⊥
 
 -- there are too many clusters, or too many orders of them
@@ -52,9 +55,14 @@ abbrev pub IsInstanceFault : Problem → InstanceFault → Type 0
 IsInstanceFault p HeadPhase = IsHeadFault p.plan p.head HeadPhase
 IsInstanceFault p HeadTime = IsHeadFault p.plan p.head HeadTime
 IsInstanceFault p ListCount = IsStart p.plan p.head × (length p.lists ≢ length p.plan)
-IsInstanceFault p (ClusterBound phase place) = IsStart p.plan p.head × (length p.lists ≡ length p.plan) × IsBoundFault p.lists (ClusterBound phase place)
-IsInstanceFault p (Order phase place) = IsStart p.plan p.head × (length p.lists ≡ length p.plan) × All (All IsCluster) p.lists × IsOrderFault p.lists (Order phase place)
-IsInstanceFault p Many = IsStart p.plan p.head × (length p.lists ≡ length p.plan) × All (All IsCluster) p.lists × All IsSpaced p.lists × AreMany p.lists
+IsInstanceFault p (ClusterBound phase place) =
+    IsStart p.plan p.head × (length p.lists ≡ length p.plan) × IsBoundFault p.lists (ClusterBound phase place)
+IsInstanceFault p (Order phase place) =
+    IsStart p.plan p.head × (length p.lists ≡ length p.plan) × All (All IsCluster) p.lists
+    × IsOrderFault p.lists (Order phase place)
+IsInstanceFault p Many =
+    IsStart p.plan p.head × (length p.lists ≡ length p.plan) × All (All IsCluster) p.lists × All IsSpaced p.lists
+    × AreMany p.lists
 
 -- how many clusters are left, and the head, after fit servings; none where one is unfit or has no cluster
 abbrev pub reached_from : Problem → List ℕ → Head → List ℕ → Option (List ℕ × Head)
@@ -76,9 +84,12 @@ pub record IsUnfitAt (p : Problem) (before : List ℕ) (phase : ℕ) (why : Unfi
 -- why a sequence is not feasible: the first number that is no phase, or else the least phase that it has not as often
 -- as it has clusters, or else the first serving that is unfit
 abbrev pub IsSeqFault : Problem → List ℕ → SeqFault → Type 0
-IsSeqFault p sequence (fault.Phase place) = FromOne (IsFirstAt (λ k. k < length p.plan) (λ k. length p.plan ≤ k) sequence) place
+IsSeqFault p sequence (fault.Phase place) =
+    FromOne (IsFirstAt (λ k. k < length p.plan) (λ k. length p.plan ≤ k) sequence) place
 IsSeqFault p sequence (WrongCount phase) =
-    All (λ k. k < length p.plan) sequence × IsFirstWithout (λ k. times_of k sequence ≡ length (list_at p.lists k)) (length p.plan) phase
+    All (λ k. k < length p.plan) sequence
+    × IsFirstWithout (λ k. times_of k sequence ≡ length (list_at p.lists k)) (length p.plan) phase
 IsSeqFault p sequence (fault.Unfit place why) =
     All (λ k. k < length p.plan) sequence × ((k : ℕ) → times_of k sequence ≡ length (list_at p.lists k))
-    × (1 ≤ place) × (place ≤ length sequence) × IsUnfitAt p (take (place - 1) sequence) (slice_index sequence (place - 1)) why
+    × (1 ≤ place) × (place ≤ length sequence)
+    × IsUnfitAt p (take (place - 1) sequence) (slice_index sequence (place - 1)) why

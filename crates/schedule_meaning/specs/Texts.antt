@@ -47,7 +47,10 @@ IsPlanFaultWhere false plan fault = IsPlanFault plan fault
 -- why bytes are no instance's text: they have not the form of a text, and this is the first line that has not the form
 -- of its place; or else the fault of the phases; or else that of the instance
 abbrev pub IsTextFault : List ℕ → TextFault → Type 0
-IsTextFault bytes (Line n) = IsFaultOf BeginsText 1 bytes (form.Line n) × ((free : Bool) (p : Problem) → ¬ IsFormText bytes free p)
-IsTextFault bytes (Plan fault) = (free : Bool) × (p : Problem) × IsFormText bytes free p × IsPlanFaultWhere free p.plan fault
-IsTextFault bytes (Instance fault) = (free : Bool) × (p : Problem) × IsFormText bytes free p × IsPlanWhere free p.plan × IsInstanceFault p fault
+IsTextFault bytes (Line n) =
+    IsFaultOf BeginsText 1 bytes (form.Line n) × ((free : Bool) (p : Problem) → ¬ IsFormText bytes free p)
+IsTextFault bytes (Plan fault) =
+    (free : Bool) × (p : Problem) × IsFormText bytes free p × IsPlanFaultWhere free p.plan fault
+IsTextFault bytes (Instance fault) =
+    (free : Bool) × (p : Problem) × IsFormText bytes free p × IsPlanWhere free p.plan × IsInstanceFault p fault
 IsTextFault bytes NoMemory = Unit {0}

@@ -18,6 +18,7 @@ serve_words net = codes "serve" ∷ net ∷ []
 pub record EndsAsCalled (words : List (List ℕ)) (old new : Outside) (status : Status) : Type 0 where
   pub usage : (status ≡ Usage) ↔ ((call : Call) → ¬ IsCall words call)
   pub unused : status ≡ Usage → (new.shelf ≡ old.shelf) × (new.out ≡ old.out) × Says refusal.Usage old.err new.err
+  pub called : status ≢ Usage → (call : Call) × IsCall words call
   pub outcome : (call : Call) → IsCall words call → Outcome (meaning_of call) old new status
 
 -- How the program ends, where its source was `from` and is `to`: it serves a network where its words are those of `serve`; else it ends as the

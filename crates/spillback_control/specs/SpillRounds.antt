@@ -9,7 +9,8 @@ use Rattle.spillback_world.specs.Storage.{cumulative_in}
 use Rattle.spillback_world.specs.Worlds.{SpillState, Stands}
 
 -- after this number of rounds: these are the lines that the nodes made, and the world with this store is the one that moved by them
-pub record HaveSpilled (net : Net) (arriving : ℕ → ℕ → ℕ) (store : ℕ → ℕ) (rounds : ℕ) (lines : List (List Green)) (w : SpillState) : Type 0 where
+pub record HaveSpilled (net : Net) (arriving : ℕ → ℕ → ℕ) (store : ℕ → ℕ) (rounds : ℕ) (lines : List (List Green))
+    (w : SpillState) : Type 0 where
   pub acted : HaveActed net (cumulative_in net arriving store) rounds lines
   pub second : w.second ≡ rounds * act_step net
   pub stands : Stands net arriving store (signs_by (line_in lines)) w

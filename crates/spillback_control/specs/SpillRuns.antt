@@ -20,11 +20,14 @@ use Rattle.spillback_control.specs.declared.records.SpillRun.{SpillRun}
 pub record IsActuatedIn (net : Net) (arriving : ℕ → ℕ → ℕ) (store : ℕ → ℕ) (totals : SpillTotals) : Type 0 where
   pub made : ℕ → ℕ → List Green
   pub acts : AllAct net (cumulative_in net arriving store) made (act_rounds net)
-  pub are : totals ≡ stored_totals net arriving (cumulative_in net arriving store (shown_in net made) (end_of_run net)) (end_of_run net)
+  pub are : totals
+      ≡ stored_totals net arriving (cumulative_in net arriving store (shown_in net made) (end_of_run net))
+      (end_of_run net)
 
 -- the line of each node after the last round
 abbrev pub last_lines : Net → (ℕ → ℕ → List Green) → List (List Green)
-last_lines net made = map (line_before (first_line net) made (act_rounds net)) (range_with_len 0 (length net.node_names))
+last_lines net made =
+    map (line_before (first_line net) made (act_rounds net)) (range_with_len 0 (length net.node_names))
 
 -- in each second of the run the last lines show the signs by which the world moved
 abbrev pub LastLinesShow : Net → (ℕ → ℕ → List Green) → Type 0
@@ -40,4 +43,5 @@ pub record IsSpillRun (net : Net) (arriving : ℕ → ℕ → ℕ) (store : ℕ 
 -- what a spill run counts in all is what the world with the store counts under its last lines
 abbrev pub CountsLastLines : Net → (ℕ → ℕ → ℕ) → (ℕ → ℕ) → SpillRun → Type 0
 CountsLastLines net arriving store run =
-    run.totals ≡ stored_totals net arriving (cumulative_in net arriving store (signs_by (line_in run.timelines)) (end_of_run net)) (end_of_run net)
+    run.totals ≡ stored_totals net arriving
+    (cumulative_in net arriving store (signs_by (line_in run.timelines)) (end_of_run net)) (end_of_run net)

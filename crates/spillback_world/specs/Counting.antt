@@ -28,8 +28,10 @@ pub record CanBeCounted (t : LinkTotals) (w : SpillState) (l : ℕ) : Type 0 whe
   pub held : slice_index w.held l ≤ entered_by t w l
 
 -- after n seconds the world stands for these arrivals, storages and signs, and each link is counted
-pub record HaveCounted (net : Net) (arriving : ℕ → ℕ → ℕ) (store : ℕ → ℕ) (shown : ℕ → ℕ → Sign) (n : ℕ) (w : SpillState) (counts : List LinkTotals) : Type 0 where
+pub record HaveCounted (net : Net) (arriving : ℕ → ℕ → ℕ) (store : ℕ → ℕ) (shown : ℕ → ℕ → Sign) (n : ℕ)
+    (w : SpillState) (counts : List LinkTotals) : Type 0 where
   pub second : w.second ≡ n
   pub stands : Stands net arriving store shown w
   pub count : length counts ≡ length net.link_names
-  pub are : (l : ℕ) → l < length net.link_names → counts_at counts l ≡ link_totals net (cumulative_in net arriving store shown n) n l
+  pub are : (l : ℕ) → l < length net.link_names
+      → counts_at counts l ≡ link_totals net (cumulative_in net arriving store shown n) n l

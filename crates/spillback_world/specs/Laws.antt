@@ -13,14 +13,17 @@ use Rattle.control_flow.specs.declared.greens.Sign.{Sign}
 
 -- what is counted in the first n seconds
 abbrev pub spilled_in : Net → Amounts → (ℕ → ℕ) → (ℕ → ℕ → Sign) → ℕ → SpillTotals
-spilled_in net arrivals store shown n = stored_totals net (arriving_of arrivals) (cumulative_in net (arriving_of arrivals) store shown n) n
+spilled_in net arrivals store shown n =
+    stored_totals net (arriving_of arrivals) (cumulative_in net (arriving_of arrivals) store shown n) n
 
 -- Nothing is lost and no link holds more than its storage: what entered has left or is on the links, and what arrived has entered or
 -- waits outside.
 pub record IsKept (net : Net) (arrivals : Amounts) (store : ℕ → ℕ) (shown : ℕ → ℕ → Sign) (n : ℕ) : Type 0 where
   pub within : AreWithin net store (cumulative_in net (arriving_of arrivals) store shown n) n
-  pub whole : (spilled_in net arrivals store shown n).entered ≡ (spilled_in net arrivals store shown n).left + (spilled_in net arrivals store shown n).on
-  pub all : total_arrived net (arriving_of arrivals) n ≡ (spilled_in net arrivals store shown n).entered + (spilled_in net arrivals store shown n).outside
+  pub whole : (spilled_in net arrivals store shown n).entered
+      ≡ (spilled_in net arrivals store shown n).left + (spilled_in net arrivals store shown n).on
+  pub all : total_arrived net (arriving_of arrivals) n
+      ≡ (spilled_in net arrivals store shown n).entered + (spilled_in net arrivals store shown n).outside
 
 -- what is counted of a world without bounds, outside of which nothing waits
 abbrev pub spill_totals_of : Totals → SpillTotals
@@ -28,7 +31,8 @@ spill_totals_of t = record { entered = t.entered; left = t.left; on = t.on; outs
 
 -- the same of the first n seconds
 abbrev pub unbounded_in : Net → Amounts → (ℕ → ℕ → Sign) → ℕ → SpillTotals
-unbounded_in net arrivals shown n = spill_totals_of (totals net (arriving_of arrivals) (cumulative_under net (arriving_of arrivals) shown n) n)
+unbounded_in net arrivals shown n =
+    spill_totals_of (totals net (arriving_of arrivals) (cumulative_under net (arriving_of arrivals) shown n) n)
 
 -- each link can hold all that may ever arrive
 abbrev pub AreAmple : List ℕ → Type 0
@@ -37,6 +41,7 @@ AreAmple store = All (λ storage. storage ≡ most_of_link) store
 -- Where each link can hold all that may ever arrive, what passes the links is what passes those without bounds, nothing waits
 -- outside, and the totals are those of the world without bounds.
 pub record IsAmple (net : Net) (arrivals : Amounts) (shown : ℕ → ℕ → Sign) (n : ℕ) : Type 0 where
-  pub past : cumulative_in net (arriving_of arrivals) (λ l. most_of_link) shown n ≡ cumulative_under net (arriving_of arrivals) shown n
+  pub past : cumulative_in net (arriving_of arrivals) (λ l. most_of_link) shown n
+      ≡ cumulative_under net (arriving_of arrivals) shown n
   pub none : (spilled_in net arrivals (λ l. most_of_link) shown n).outside ≡ 0
   pub totals : spilled_in net arrivals (λ l. most_of_link) shown n ≡ unbounded_in net arrivals shown n

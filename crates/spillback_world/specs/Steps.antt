@@ -18,7 +18,8 @@ use Rattle.control_flow.specs.declared.greens.Sign.TheVariants.{Dark}
 -- show, since when each link is green, and what waits at the end of each, `ready`
 abbrev pub rate_at : Net → List ℕ → List Sign → List ℕ → List ℕ → ℕ → ℕ → Option ℕ → ℕ
 rate_at net waits signs since ready x l None = 0
-rate_at net waits signs since ready x l (Some node) = if is_open net waits since x l node (slice_index_or signs node Dark) then rate_by net since ready x l else 0
+rate_at net waits signs since ready x l (Some node) =
+    if is_open net waits since x l node (slice_index_or signs node Dark) then rate_by net since ready x l else 0
 
 -- how a second begins, by the queues, what leaves the network, how much links may discharge, and what is on each link
 abbrev pub opening_by : List ℕ → List ℕ → List ℕ → List ℕ → Opening
@@ -30,7 +31,8 @@ opening_by queues leaving rates held = record {
 
 -- what link l, which ends at a node, discharges of its queue
 abbrev pub link_goes : Net → List ℕ → List ℕ → List ℕ → List ℕ → ℕ → ℕ
-link_goes net store held queues rates l = fitting (turns_at net l) (room_of store held) (min (slice_index rates l) (slice_index queues l))
+link_goes net store held queues rates l =
+    fitting (turns_at net l) (room_of store held) (min (slice_index rates l) (slice_index queues l))
 
 -- what link l discharges, by the node where it ends; what leaves the network has left
 abbrev pub discharge_of : Net → List ℕ → List ℕ → List ℕ → List ℕ → List ℕ → ℕ → Option ℕ → ℕ
@@ -63,31 +65,41 @@ pub record HaveLeft (net : Net) (queues leaving : List ℕ) : Type 0 where
 
 -- Link l has discharged: what it left its queue and what is on it, and its parts entered its exits. The lists of what leaves, of the
 -- queues, of what enters and of what is held are given as they were and as they are.
-pub record HasDischarged (net : Net) (store : List ℕ) (rates : List ℕ) (l : ℕ) (lv qs en hs leaving queues entering held : List ℕ) : Type 0 where
+pub record HasDischarged (net : Net) (store : List ℕ) (rates : List ℕ) (l : ℕ)
+    (lv qs en hs leaving queues entering held : List ℕ) : Type 0 where
   pub links : HaveLinks net store leaving queues entering held rates
   pub are : AreHeld net store queues entering held
   pub here : slice_index leaving l ≡ discharge_of net store hs qs lv rates l (link_at net l).to
   pub others : (k : ℕ) → k ≢ l → slice_index leaving k ≡ slice_index lv k
-  pub waits : (k : ℕ) → slice_index queues k + only_at l (inward (link_at net l).to (slice_index leaving l)) k ≡ slice_index qs k
+  pub waits : (k : ℕ)
+      → slice_index queues k + only_at l (inward (link_at net l).to (slice_index leaving l)) k ≡ slice_index qs k
   pub enters : (k : ℕ) → slice_index entering k ≡ slice_index en k + split_of (turns_at net l) (slice_index leaving l) k
-  pub holds : (k : ℕ) → slice_index held k + only_at l (inward (link_at net l).to (slice_index leaving l)) k ≡ slice_index hs k + split_of (turns_at net l) (slice_index leaving l) k
+  pub holds : (k : ℕ)
+      → slice_index held k + only_at l (inward (link_at net l).to (slice_index leaving l)) k
+      ≡ slice_index hs k + split_of (turns_at net l) (slice_index leaving l) k
 
 -- what the first n links discharge, by what their queues, what leaves the network, and what is held were, and what of it enters a link
 abbrev pub first_goes : Net → List ℕ → List ℕ → ℕ → List ℕ → List ℕ → List ℕ → List ℕ
 first_goes net store rates n lv qs hs = all_goes net (slice_index store) (opening_by qs lv rates hs) n
 
 abbrev pub first_given : Net → List ℕ → List ℕ → ℕ → List ℕ → List ℕ → List ℕ → ℕ → ℕ
-first_given net store rates n lv qs hs l = total (λ k. split_of (turns_at net k) (slice_index (first_goes net store rates n lv qs hs) k) l) n
+first_given net store rates n lv qs hs l =
+    total (λ k. split_of (turns_at net k) (slice_index (first_goes net store rates n lv qs hs) k) l) n
 
 -- The first n links have discharged, one after another. The lists are given as they were and as they are.
-pub record HaveDischarged (net : Net) (store : List ℕ) (rates : List ℕ) (n : ℕ) (lv qs en hs leaving queues entering held : List ℕ) : Type 0 where
+pub record HaveDischarged (net : Net) (store : List ℕ) (rates : List ℕ) (n : ℕ)
+    (lv qs en hs leaving queues entering held : List ℕ) : Type 0 where
   pub links : HaveLinks net store leaving queues entering held rates
   pub are : AreHeld net store queues entering held
   pub goes : (k : ℕ) → k < n → slice_index leaving k ≡ slice_index (first_goes net store rates n lv qs hs) k
   pub rest : (k : ℕ) → n ≤ k → slice_index leaving k ≡ slice_index lv k
-  pub waits : (k : ℕ) → slice_index queues k + inward (link_at net k).to (slice_index (first_goes net store rates n lv qs hs) k) ≡ slice_index qs k
+  pub waits : (k : ℕ)
+      → slice_index queues k + inward (link_at net k).to (slice_index (first_goes net store rates n lv qs hs) k)
+      ≡ slice_index qs k
   pub enters : (k : ℕ) → slice_index entering k ≡ slice_index en k + first_given net store rates n lv qs hs k
-  pub holds : (k : ℕ) → slice_index held k + inward (link_at net k).to (slice_index (first_goes net store rates n lv qs hs) k) ≡ slice_index hs k + first_given net store rates n lv qs hs k
+  pub holds : (k : ℕ)
+      → slice_index held k + inward (link_at net k).to (slice_index (first_goes net store rates n lv qs hs) k)
+      ≡ slice_index hs k + first_given net store rates n lv qs hs k
 
 -- what enters a link from outside: as much of what waits there and of what arrives as there is room for
 abbrev pub comes_of : List ℕ → List ℕ → List ℕ → (ℕ → ℕ) → ℕ → ℕ
@@ -111,7 +123,8 @@ state_of links second signs since walks totals = record {
 
 -- A world of these links, at this second and with these totals, stands with some signs and greens. Of what is shown in this second it says
 -- nothing.
-pub record IsLookedAt (net : Net) (arriving : ℕ → ℕ → ℕ) (store : ℕ → ℕ) (shown : ℕ → ℕ → Sign) (links : Links) (second : ℕ) (walks : Bool) (totals : SpillTotals) : Type 0 where
+pub record IsLookedAt (net : Net) (arriving : ℕ → ℕ → ℕ) (store : ℕ → ℕ) (shown : ℕ → ℕ → Sign) (links : Links)
+    (second : ℕ) (walks : Bool) (totals : SpillTotals) : Type 0 where
   pub signs : List Sign
   pub since : List ℕ
   pub stands : Stands net arriving store shown (state_of links second signs since walks totals)

@@ -27,13 +27,16 @@ pub record Opening : Type 0 where
 
 -- what is on link l once the first links have discharged
 abbrev pub held_by : Net → Opening → List ℕ → ℕ → ℕ
-held_by net o goes l = o.holds l + total (λ k. split_of (turns_at net k) (slice_index goes k) l) (length goes) - inward (link_at net l).to (slice_index goes l)
+held_by net o goes l =
+    o.holds l + total (λ k. split_of (turns_at net k) (slice_index goes k) l) (length goes)
+    - inward (link_at net l).to (slice_index goes l)
 
 -- what link l discharges, once the links before it have, by the node where it ends: all that waits, or the greatest amount up to
 -- what it would discharge into links without bounds for whose parts there is room
 abbrev pub next_goes : Net → (ℕ → ℕ) → Opening → List ℕ → ℕ → Option ℕ → ℕ
 next_goes net store o goes l None = o.waits l
-next_goes net store o goes l (Some node) = fitting (turns_at net l) (λ e. store e - held_by net o goes e) (min (o.rate l node) (o.waits l))
+next_goes net store o goes l (Some node) =
+    fitting (turns_at net l) (λ e. store e - held_by net o goes e) (min (o.rate l node) (o.waits l))
 
 -- the discharges of the first n links, one after another
 unfoldable pub all_goes : Net → (ℕ → ℕ) → Opening → ℕ → List ℕ
@@ -71,7 +74,8 @@ outside arriving past n l = total (λ x. arriving x l) n - (past n l).entered
 
 -- what of that, and of what arrives in second x, enters the link then: as much as there is room for, once all links have discharged
 abbrev pub let_in : Net → (ℕ → ℕ → ℕ) → (ℕ → ℕ) → (ℕ → ℕ → Sign) → (ℕ → ℕ → Cumulative) → ℕ → List ℕ → ℕ → ℕ
-let_in net arriving store shown past x goes l = min (outside arriving past x l + arriving x l) (store l - held_after net shown past x goes l)
+let_in net arriving store shown past x goes l =
+    min (outside arriving past x l + arriving x l) (store l - held_after net shown past x goes l)
 
 -- what moves in second x
 abbrev pub stored_moves : Net → (ℕ → ℕ → ℕ) → (ℕ → ℕ) → (ℕ → ℕ → Sign) → List (List Cumulative) → ℕ → Moves
@@ -85,4 +89,5 @@ cumulative_in net arriving store shown now = passed_in (history_by net (stored_m
 
 -- no link ever holds more than its storage
 abbrev pub AreWithin : Net → (ℕ → ℕ) → (ℕ → ℕ → Cumulative) → ℕ → Type 0
-AreWithin net store past n = (k l : ℕ) → k ≤ n → l < length net.link_names → (past k l).entered ≤ (past k l).left + store l
+AreWithin net store past n =
+    (k l : ℕ) → k ≤ n → l < length net.link_names → (past k l).entered ≤ (past k l).left + store l

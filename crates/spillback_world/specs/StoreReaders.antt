@@ -24,7 +24,8 @@ storage_at storages link = slice_index_or storages link None
 
 -- the storage of the row was written, where it is one and its link had none; else the row's first fault
 abbrev pub Adds : StoreRow → ℕ → List (Option ℕ) → List (Option ℕ) → Result (Unit {0}) StoreFault → Type 0
-Adds r number old new (Ok _) = IsStorage r.storage × (storage_at old r.link ≡ None) × (new ≡ slice_set old r.link (Some r.storage))
+Adds r number old new (Ok _) =
+    IsStorage r.storage × (storage_at old r.link ≡ None) × (new ≡ slice_set old r.link (Some r.storage))
 Adds r number old new (Err (Bound n)) = (n ≡ number) × IsAtBound r
 Adds r number old new (Err (Twice n)) = (n ≡ number) × IsStorage r.storage × IsSome (storage_at old r.link)
 Adds r number old new (Err _) = ⊥
@@ -33,7 +34,8 @@ Adds r number old new (Err _) = ⊥
 abbrev pub Reads : Net → List (List ℕ) → ℕ → Result StoreRow StoreFault → Type 0
 Reads net fields number (Ok r) = parse_in net fields ≡ Some r
 Reads net fields number (Err (Row n)) = (n ≡ number) × (parse fields ≡ None)
-Reads net fields number (Err (Link n)) = (n ≡ number) × IsSomeAnd (parse fields) (λ t. number_of net.link_names t.name ≡ None)
+Reads net fields number (Err (Link n)) =
+    (n ≡ number) × IsSomeAnd (parse fields) (λ t. number_of net.link_names t.name ≡ None)
 Reads net fields number (Err _) = ⊥
 
 -- the storages are those of these rows
@@ -50,7 +52,10 @@ pub record AreRead (net : Net) (records : List (List (List ℕ))) (storages : Li
 
 -- the record with this number tells no row, or its row cannot be added to the storages
 abbrev pub IsRecordFault : Net → List (Option ℕ) → List (List ℕ) → ℕ → StoreFault → Type 0
-IsRecordFault net storages fields number fault = Reads net fields number (Err fault) ⊎ ((r : StoreRow) × (parse_in net fields ≡ Some r) × (new : List (Option ℕ)) × Adds r number storages new (Err fault))
+IsRecordFault net storages fields number fault =
+    Reads net fields number (Err fault)
+    ⊎ ((r : StoreRow) × (parse_in net fields ≡ Some r) × (new : List (Option ℕ))
+    × Adds r number storages new (Err fault))
 
 -- the reader of a store has the storages of the rows that these records tell
 abbrev pub HasRead : Net → List (List (List ℕ)) → StoreReader → Type 0

@@ -25,7 +25,8 @@ abbrev pub cause_of : Net → StoreFault → Cause StoreRow
 cause_of net NoMemory = OutOfMemory
 cause_of net Header = NoHeader
 cause_of net (Row n) = AtRecord n (λ before fields. parse fields ≡ None)
-cause_of net (Link n) = AtRecord n (λ before fields. IsSomeAnd (parse fields) (λ t. number_of net.link_names t.name ≡ None))
+cause_of net (Link n) =
+    AtRecord n (λ before fields. IsSomeAnd (parse fields) (λ t. number_of net.link_names t.name ≡ None))
 cause_of net (Bound n) = AtRecord n (λ before fields. IsSomeAnd (parse_in net fields) IsAtBound)
 cause_of net (Twice n) = AtRecord n (λ before fields. IsSomeAnd (parse_in net fields) (IsAtTwice before))
 

@@ -10,4 +10,5 @@ use Rattle.spillback_world.specs.Storage.{cumulative_in}
 -- what the first n seconds have counted of each link, where `arriving second link` comes from outside, `store link` is how much a link
 -- can hold and the signals show this: what entered it, what left it, and the sum of its queues after each second
 abbrev pub stored_links : Net → (ℕ → ℕ → ℕ) → (ℕ → ℕ) → (ℕ → ℕ → Sign) → ℕ → List LinkTotals
-stored_links net arriving store shown n = map (link_totals net (cumulative_in net arriving store shown n) n) (range_with_len 0 (length net.link_names))
+stored_links net arriving store shown n =
+    map (link_totals net (cumulative_in net arriving store shown n) n) (range_with_len 0 (length net.link_names))

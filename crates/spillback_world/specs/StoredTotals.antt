@@ -25,7 +25,8 @@ stored_totals net arriving past n = record {
   left = total_left net past n;
   on = on_road net past n;
   outside = outside_all net arriving past n;
-  delay = total (λ x. total (λ l. queue net past (x + 1) l) (length net.link_names) + outside_all net arriving past (x + 1)) n;
+  delay = total
+      (λ x. total (λ l. queue net past (x + 1) l) (length net.link_names) + outside_all net arriving past (x + 1)) n;
 }
 
 -- what entered the network has left it or is in it

@@ -43,14 +43,20 @@ pub record HasShape (net : Net) (w : SpillState) : Type 0 where
 
 -- All that a world keeps is what the definition gives for a network, arrivals, storages and what is shown over the seconds below its
 -- own.
-pub record Stands (net : Net) (arriving : ℕ → ℕ → ℕ) (store : ℕ → ℕ) (shown : ℕ → ℕ → Sign) (w : SpillState) : Type 0 where
+pub record Stands (net : Net) (arriving : ℕ → ℕ → ℕ) (store : ℕ → ℕ) (shown : ℕ → ℕ → Sign)
+    (w : SpillState) : Type 0 where
   pub shape : HasShape net w
   pub by : w.second ≤ most_seconds
   pub keeps : Keeps net (cumulative_in net arriving store shown w.second) w.queues w.recent w.waits w.second
-  pub held : (l : ℕ) → l < length net.link_names → slice_index w.held l ≡ (cumulative_in net arriving store shown w.second w.second l).entered - (cumulative_in net arriving store shown w.second w.second l).left
+  pub held : (l : ℕ) → l < length net.link_names
+      → slice_index w.held l
+      ≡ (cumulative_in net arriving store shown w.second w.second l).entered
+      - (cumulative_in net arriving store shown w.second w.second l).left
   pub totals : w.totals ≡ stored_totals net arriving (cumulative_in net arriving store shown w.second) w.second
-  pub stood : (l : ℕ) → l < length net.link_names → slice_index w.stood l ≡ stood net (cumulative_in net arriving store shown w.second) w.second l
-  pub outside : (l : ℕ) → l < length net.link_names → slice_index w.outside l ≡ outside arriving (cumulative_in net arriving store shown w.second) w.second l
+  pub stood : (l : ℕ) → l < length net.link_names
+      → slice_index w.stood l ≡ stood net (cumulative_in net arriving store shown w.second) w.second l
+  pub outside : (l : ℕ) → l < length net.link_names
+      → slice_index w.outside l ≡ outside arriving (cumulative_in net arriving store shown w.second) w.second l
   pub lights : AreShown net shown w.second w.signs w.since
 
 -- a world stands for this network with some arrivals, storages and timelines

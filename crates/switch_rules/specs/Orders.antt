@@ -11,7 +11,8 @@ one_less counts p = slice_set counts p (slice_index counts p - 1)
 abbrev pub orders_of : ℕ → List ℕ → List (List ℕ)
 orders_of zero counts = [] ∷ []
 orders_of (suc total) counts =
-    flat_map (λ p. if nat_lt 0 (slice_index counts p) then map (λ order. p ∷ order) (orders_of total (one_less counts p)) else [])
+    flat_map (λ p. if nat_lt 0 (slice_index counts p)
+    then map (λ order. p ∷ order) (orders_of total (one_less counts p)) else [])
     (range_with_len 0 (length counts))
 
 -- every order in which the phases' clusters can be served, given how many each phase has: in lexicographic order,

@@ -27,14 +27,16 @@ cluster_at list k = slice_index_or list k no_cluster
 
 -- no cluster arrives before the one before it has arrived whole
 abbrev pub IsSpaced : List Cluster → Type 0
-IsSpaced list = (k : ℕ) → k + 1 < length list → (cluster_at list k).arr + (cluster_at list k).len ≤ (cluster_at list (k + 1)).arr
+IsSpaced list =
+    (k : ℕ) → k + 1 < length list → (cluster_at list k).arr + (cluster_at list k).len ≤ (cluster_at list (k + 1)).arr
 
 -- the next cluster of phase k, given how many of each phase are left
 abbrev pub next_cluster : List (List Cluster) → List ℕ → ℕ → Option Cluster
 next_cluster lists left k = slice_get (list_at lists k) (length (list_at lists k) - slice_index left k)
 
 -- a serving of phase k from a head is that of the phase's next cluster, given how many of each phase are left
-pub record IsNextServing (plan : List Phase) (lists : List (List Cluster)) (left : List ℕ) (head : Head) (k : ℕ) (s : Served) : Type 0 where
+pub record IsNextServing (plan : List Phase) (lists : List (List Cluster)) (left : List ℕ) (head : Head) (k : ℕ)
+    (s : Served) : Type 0 where
   pub cluster : Cluster
   pub next : next_cluster lists left k ≡ Some cluster
   pub fit : serving plan head k cluster ≡ Ok (s, head_after k s)

@@ -25,7 +25,8 @@ pub record IsCluster (c : Cluster) : Type 0 where
 -- when the cluster starts if the green of the head goes on: as it arrives and the green is free, or after the
 -- start-up loss where that is not spent and the cluster waits already
 abbrev pub start_in_green : Phase → Head → Cluster → ℕ
-start_in_green p head c = if head.fresh && nat_le c.arr head.at then max head.at (head.since + p.loss) else max c.arr head.at
+start_in_green p head c =
+    if head.fresh && nat_le c.arr head.at then max head.at (head.since + p.loss) else max c.arr head.at
 
 -- whether the green of the head goes on for a cluster of phase j, whose times are `p`: it is a green of this phase, and the
 -- cluster, where it is served in it, ends within its greatest duration
@@ -45,11 +46,22 @@ abbrev pub served_from : Phase → ℕ → Cluster → ℕ → ℕ → Bool → 
 served_from p j c green start kept =
     if nat_lt (green + p.greatest) (start + c.len) then Err TooLong
     else (if nat_lt p.wait (start - c.arr) then Err TooLate
-    else Ok (record { green = green; start = start; finish = start + c.len; cost = c.load * (start - c.arr); kept = kept }, record { phase = j; since = green; at = start + c.len; fresh = false }))
+    else Ok (
+      record {
+        green = green;
+        start = start;
+        finish = start + c.len;
+        cost = c.load * (start - c.arr);
+        kept = kept;
+      },
+      record { phase = j; since = green; at = start + c.len; fresh = false },
+    ))
 
 -- a cluster of phase j in a new green: after the start-up loss where it waits already, and else as it arrives
 abbrev pub served_anew : Phase → ℕ → Cluster → ℕ → Result (Served × Head) Unfit
-served_anew p j c earliest = if nat_le c.arr earliest then served_from p j c earliest (earliest + p.loss) false else served_from p j c c.arr c.arr false
+served_anew p j c earliest =
+    if nat_le c.arr earliest then served_from p j c earliest (earliest + p.loss) false
+    else served_from p j c c.arr c.arr false
 
 -- a cluster of phase j served from a head, and the next head, or why it is unfit: in the green of the head where that goes on, and
 -- else in a new one

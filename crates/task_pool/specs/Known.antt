@@ -41,7 +41,8 @@ module _ {T : Type 0} where
   -- each of these fits the slot at its place
   pub record FitSlots {A : Type 0} (Fits : Slot T → A → Type 0) (slots : List (Slot T)) (ends : List A) : Type 0 where
     pub count : length ends ≡ length slots
-    pub each : (k : ℕ) (slot : Slot T) (end' : A) → k < length slots → Fits (slice_index_or slots k slot) (slice_index_or ends k end')
+    pub each : (k : ℕ) (slot : Slot T) (end' : A) → k < length slots
+        → Fits (slice_index_or slots k slot) (slice_index_or ends k end')
 
   -- these are the owner's ends of the slots
   abbrev pub AreOwnersOf : List (Slot T) → List (SlotOwner T) → Type 0
@@ -59,7 +60,8 @@ module _ {T : Type 0} where
   -- the slots before a place have an end each of one thread, with no task
   pub record AreFreeTo (place : ℕ) (slots : List (Slot T)) (workers : List (SlotWorker T)) : Type 0 where
     pub count : length workers ≡ place
-    pub each : (k : ℕ) (slot : Slot T) (worker : SlotWorker T) → k < place → IsFreeWorkerOf (slice_index_or slots k slot) (slice_index_or workers k worker)
+    pub each : (k : ℕ) (slot : Slot T) (worker : SlotWorker T) → k < place
+        → IsFreeWorkerOf (slice_index_or slots k slot) (slice_index_or workers k worker)
 
   -- all slots are open, and nothing is laid in any
   abbrev pub AreEmpty : List (SlotOwner T) → Type 0
@@ -67,10 +69,12 @@ module _ {T : Type 0} where
 
   -- all slots are closed
   abbrev pub AreClosed : List (SlotOwner T) → Type 0
-  AreClosed owners = (k : ℕ) (owner : SlotOwner T) → k < length owners → has_closed (slice_index_or owners k owner) ≡ true
+  AreClosed owners = (k : ℕ) (owner : SlotOwner T) → k < length owners
+      → has_closed (slice_index_or owners k owner) ≡ true
 
   -- the calling thread's ends of the slots: the owner's, open with nothing laid, and a worker's, with no task
-  pub record AreCallerEnds (slots : List (Slot T)) (owners : List (SlotOwner T)) (workers : List (SlotWorker T)) : Type 0 where
+  pub record AreCallerEnds (slots : List (Slot T)) (owners : List (SlotOwner T))
+      (workers : List (SlotWorker T)) : Type 0 where
     pub owned : AreOwnersOf slots owners
     pub empty : AreEmpty owners
     pub served : AreWorkersOf slots workers
@@ -78,12 +82,14 @@ module _ {T : Type 0} where
   -- in each slot the task at its place is laid
   pub record AreLaid (tasks : List T) (owners : List (SlotOwner T)) : Type 0 where
     pub count : length owners ≡ length tasks
-    pub each : (k : ℕ) (task : T) (owner : SlotOwner T) → k < length owners → laid_of (slice_index_or owners k owner) ≡ Some (slice_index_or tasks k task)
+    pub each : (k : ℕ) (task : T) (owner : SlotOwner T) → k < length owners
+        → laid_of (slice_index_or owners k owner) ≡ Some (slice_index_or tasks k task)
 
   -- these are what became of the tasks that were laid
   pub record AreTakenBack (done : T → T → Type 0) (owners : List (SlotOwner T)) (tasks : List T) : Type 0 where
     pub count : length tasks ≡ length owners
-    pub each : (k : ℕ) (task : T) (owner : SlotOwner T) → k < length owners → IsBack done (laid_of (slice_index_or owners k owner)) (slice_index_or tasks k task)
+    pub each : (k : ℕ) (task : T) (owner : SlotOwner T) → k < length owners
+        → IsBack done (laid_of (slice_index_or owners k owner)) (slice_index_or tasks k task)
 
   -- a task is laid in each slot
   abbrev pub AreAllLaid : List (SlotOwner T) → Type 0

@@ -11,13 +11,16 @@ module _ {T : Type 0} where
     pub fewer : length left ≤ length tasks
     pub same : (k : ℕ) (task : T) → k < length left → slice_index_or left k task ≡ slice_index_or tasks k task
     pub empty : (k : ℕ) (owner : SlotOwner T) → k < length left → IsOpen (slice_index_or owners k owner)
-    pub laid : (k : ℕ) (task : T) (owner : SlotOwner T) → length left ≤ k → k < length owners → laid_of (slice_index_or owners k owner) ≡ Some (slice_index_or tasks k task)
+    pub laid : (k : ℕ) (task : T) (owner : SlotOwner T) → length left ≤ k → k < length owners
+        → laid_of (slice_index_or owners k owner) ≡ Some (slice_index_or tasks k task)
 
   -- the tasks of the slots before this place came back, each done
-  pub record IsTakingBack (done : T → T → Type 0) (place : ℕ) (before after : List (SlotOwner T)) (tasks : List T) : Type 0 where
+  pub record IsTakingBack (done : T → T → Type 0) (place : ℕ) (before after : List (SlotOwner T))
+      (tasks : List T) : Type 0 where
     pub long : length after ≡ length before
     pub count : length tasks ≡ place
-    pub each : (k : ℕ) (task : T) (owner : SlotOwner T) → k < place → IsBack done (laid_of (slice_index_or before k owner)) (slice_index_or tasks k task)
+    pub each : (k : ℕ) (task : T) (owner : SlotOwner T) → k < place
+        → IsBack done (laid_of (slice_index_or before k owner)) (slice_index_or tasks k task)
     pub empty : (k : ℕ) (owner : SlotOwner T) → k < place → IsOpen (slice_index_or after k owner)
     pub same : (k : ℕ) (owner : SlotOwner T) → place ≤ k → slice_index_or after k owner ≡ slice_index_or before k owner
 

@@ -26,6 +26,8 @@ module _ {T : Type 0} (ready : T → Type 0) (done : T → T → Type 0) where
     pub shut : owner.closed ≡ true → (owner.laid ≡ None) × (slice_index s.words 0 ≡ 4)
     pub fresh : owner.fresh ≡ true → (owner.laid ≡ None) × (get_elem? s.homes 0 ≡ some (some None))
     pub laid : (x : T) → owner.laid ≡ Some x → IsSomewhere (slice_index s.words 0) s.homes x
-    pub taken : (seat : ℕ) (v : View T) (x : T) → get_elem? s.views seat ≡ some v → v.taken ≡ Some x → (slice_index s.words 0 ≡ 2) × (owner.laid ≡ Some x)
+    pub taken : (seat : ℕ) (v : View T) (x : T) → get_elem? s.views seat ≡ some v → v.taken ≡ Some x
+        → (slice_index s.words 0 ≡ 2) × (owner.laid ≡ Some x)
     pub known : (seat : ℕ) (v : View T) → get_elem? s.views seat ≡ some v → v.closed ≡ true → owner.closed ≡ true
-    pub one : (seat other : ℕ) (v w : View T) (x y : T) → get_elem? s.views seat ≡ some v → get_elem? s.views other ≡ some w → v.taken ≡ Some x → w.taken ≡ Some y → seat ≡ other
+    pub one : (seat other : ℕ) (v w : View T) (x y : T) → get_elem? s.views seat ≡ some v
+        → get_elem? s.views other ≡ some w → v.taken ≡ Some x → w.taken ≡ Some y → seat ≡ other

@@ -12,7 +12,9 @@ literal_at text bytes = if starts_with nat_eq bytes text then Some (drop (length
 -- the number below the limit at the front that has the separator after it, and the bytes after both
 unfoldable pub field_at : ℕ → ℕ → List ℕ → Option (ℕ × List ℕ)
 field_at zero separator bytes = None
-field_at (suc n) separator bytes = option_or (option_map (λ rest. (n, rest)) (literal_at (decimal n ++ separator ∷ []) bytes)) (field_at n separator bytes)
+field_at (suc n) separator bytes =
+    option_or (option_map (λ rest. (n, rest)) (literal_at (decimal n ++ separator ∷ []) bytes))
+    (field_at n separator bytes)
 
 -- a number and the bytes after it, as contracts see them
 abbrev pub field_seen : ℕ × Bor (List ℕ) → ℕ × List ℕ

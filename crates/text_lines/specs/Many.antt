@@ -6,4 +6,5 @@ use Rattle.std.specs.Option.{option_map_or}
 unfoldable pub many_at : {A : Type 0} → (List ℕ → Option (A × List ℕ)) → ℕ → List ℕ → List A × List ℕ
 many_at read zero bytes = ([], bytes)
 many_at read (suc most) bytes =
-    option_map_or (λ first. let others = many_at read most first.1 in (first.0 ∷ others.0, others.1)) (read bytes) ([], bytes)
+    option_map_or (λ first. let others = many_at read most first.1 in (first.0 ∷ others.0, others.1)) (read bytes)
+    ([], bytes)

@@ -33,7 +33,8 @@ actuated_bounds net node k = wait_bound (plan_at net node) (intergreens_of net 0
 
 -- the bounds of a phase of a node: where the nodes plan, and under actuated control
 abbrev pub phase_bounds : Net → ℕ → ℕ → PhaseBounds
-phase_bounds net node k = record { node = node; phase = k; planned = planned_bounds net node k; actuated = actuated_bounds net node k }
+phase_bounds net node k =
+    record { node = node; phase = k; planned = planned_bounds net node k; actuated = actuated_bounds net node k }
 
 -- the bounds of the phases of a node
 abbrev pub node_bounds : Net → ℕ → List PhaseBounds

@@ -31,7 +31,8 @@ greatest_intergreen plan intergreen = fold (λ most k. max most (intergreen k)) 
 -- The longest time that a queue of phase k waits until something leaves it, where this many seconds may pass until a round begins from
 -- which on the signal stops at the phase in each turn: those seconds, an intergreen that is under way then, and the longest wait.
 abbrev pub recalled_wait : List Phase → (ℕ → ℕ) → ℕ → ℕ → ℕ
-recalled_wait plan intergreen until_recalled k = until_recalled + greatest_intergreen plan intergreen + longest_wait plan intergreen k
+recalled_wait plan intergreen until_recalled k =
+    until_recalled + greatest_intergreen plan intergreen + longest_wait plan intergreen k
 
 -- this many seconds, where the least green of phase k is longer than its start-up: else its greens may be over before anything leaves
 abbrev pub green_bound : List Phase → ℕ → ℕ → Result ℕ NoBound
@@ -44,7 +45,8 @@ green_bound plan k wait = if nat_lt (phase_at plan k).loss (phase_at plan k).lea
 abbrev pub wait_bound : List Phase → (ℕ → ℕ) → Option ℕ → ℕ → Result ℕ NoBound
 wait_bound plan intergreen until_recalled k =
     if is_unmarked_at plan k then green_bound plan k (longest_wait plan intergreen k)
-    else option_map_or (λ seconds. green_bound plan k (recalled_wait plan intergreen seconds k)) until_recalled (Err Marked)
+    else option_map_or (λ seconds. green_bound plan k (recalled_wait plan intergreen seconds k)) until_recalled
+    (Err Marked)
 
 -- the longest intergreens of the nodes where no signal waits in all-red beyond `look` seconds from the end of a green
 abbrev pub intergreens_of : Net → ℕ → ℕ → ℕ → ℕ
@@ -60,7 +62,8 @@ wait_bounds net intergreens node k = wait_bound (plan_at net node) (intergreens 
 abbrev pub AreWaitsWithin : Net → (ℕ → ℕ → Result ℕ NoBound) → (ℕ → ℕ → Cumulative) → ℕ → Type 0
 AreWaitsWithin net bound past end =
     (l node wait n : ℕ) → l < length net.link_names → (link_at net l).to ≡ Some node → (link_at net l).walk ≡ None
-    → bound node (link_at net l).phase ≡ Ok wait → n + wait ≤ end → 0 < queue net past n l → Discharges past l n (n + wait)
+    → bound node (link_at net l).phase ≡ Ok wait → n + wait ≤ end → 0 < queue net past n l
+    → Discharges past l n (n + wait)
 
 -- what a link discharges at the least in a second in which it may, where enough waits: less where it gives way to others
 abbrev pub least_rate : Link → ℕ
@@ -73,7 +76,8 @@ least_discharge plan k sat = ((phase_at plan k).least - (phase_at plan k).loss) 
 -- in how many seconds from any second on a whole green of phase k begins and ends: those left of a green, the longest red, and
 -- a green
 abbrev pub whole_green_within : List Phase → (ℕ → ℕ) → ℕ → ℕ
-whole_green_within plan intergreen k = (phase_at plan k).greatest + longest_red plan intergreen k + (phase_at plan k).greatest
+whole_green_within plan intergreen k =
+    (phase_at plan k).greatest + longest_red plan intergreen k + (phase_at plan k).greatest
 
 -- In the first `end` seconds each queue of an unmarked phase, of a link without a walk, leaves green by green: after the times of a
 -- number of whole greens it has lost as many least discharges, or all of it has left.
@@ -84,7 +88,8 @@ AreEmptied net intergreens past end =
     let k = (link_at net l).phase in
     let later = n + greens * whole_green_within plan (intergreens node) k in
     IsTrue (is_unmarked_at plan k) → later ≤ end
-    → (past n l).left + min (queue net past n l) (greens * least_discharge plan k (least_rate (link_at net l))) ≤ (past later l).left
+    → (past n l).left + min (queue net past n l) (greens * least_discharge plan k (least_rate (link_at net l)))
+    ≤ (past later l).left
 
 -- a lawful timeline with intergreens within these that shows the first `end` seconds: its first row begins with second 0, and its last
 -- one ends after them

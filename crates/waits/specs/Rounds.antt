@@ -18,7 +18,8 @@ pub record IsRound (plan : List Phase) (intergreen : ℕ → ℕ) (now : ℕ) (o
 
 -- `line r` is the timeline before round r, which begins in second `begins r`: the first is lawful with intergreens within these, and each
 -- of this many rounds continues it by such rows
-pub record AreRounds (plan : List Phase) (intergreen : ℕ → ℕ) (rounds : ℕ) (begins : ℕ → ℕ) (line : ℕ → List Green) : Type 0 where
+pub record AreRounds (plan : List Phase) (intergreen : ℕ → ℕ) (rounds : ℕ) (begins : ℕ → ℕ)
+    (line : ℕ → List Green) : Type 0 where
   pub lawful : IsLawful plan (line 0)
   pub intergreens : AreIntergreensWithin intergreen (line 0)
   pub each : (r : ℕ) → r < rounds → IsRound plan intergreen (begins r) (line r) (line (suc r))

@@ -11,7 +11,8 @@ use Rattle.control_flow.specs.declared.greens.Green.{Green}
 -- the intergreens of a timeline are within these: from the end of a row of phase k to the begin of the next row at most `intergreen k`
 -- seconds pass
 pub record AreIntergreensWithin (intergreen : ℕ → ℕ) (rows : List Green) : Type 0 where
-  pub next : (i : ℕ) → i + 1 < length rows → (row_at rows (i + 1)).from ≤ (row_at rows i).to + intergreen (row_at rows i).phase
+  pub next : (i : ℕ) → i + 1 < length rows
+      → (row_at rows (i + 1)).from ≤ (row_at rows i).to + intergreen (row_at rows i).phase
 
 -- the longest intergreen after phase k where a signal waits in all-red no more than `look` seconds from the end of a green on: that,
 -- or yellow and all-red where they take longer
@@ -49,4 +50,5 @@ abbrev pub BeginSoon : List Phase → ℕ → Head → List ℕ → List Served 
 BeginSoon plan by head [] served = Unit {0}
 BeginSoon plan by head (k ∷ ks) [] = Unit {0}
 BeginSoon plan by head (k ∷ ks) (s ∷ ss) =
-    (s.kept ≡ false → (s.green ≤ by) ⊎ (s.green ≡ earliest_green plan head k)) × BeginSoon plan by (head_after k s) ks ss
+    (s.kept ≡ false → (s.green ≤ by) ⊎ (s.green ≡ earliest_green plan head k))
+    × BeginSoon plan by (head_after k s) ks ss

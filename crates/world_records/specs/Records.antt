@@ -16,7 +16,8 @@ header = codes "kind" ∷ codes "round" ∷ codes "node" ∷ codes "x" ∷ codes
 
 -- the record of a green of a node
 abbrev pub green_record : Net → ℕ → Green → List (List ℕ)
-green_record net node green = codes "green" ∷ [] ∷ node_name_at net node ∷ decimal green.phase ∷ decimal green.from ∷ decimal green.to ∷ [] ∷ []
+green_record net node green =
+    codes "green" ∷ [] ∷ node_name_at net node ∷ decimal green.phase ∷ decimal green.from ∷ decimal green.to ∷ [] ∷ []
 
 -- the records of the greens that are told of a node up to second `end`, out of the timelines of all nodes in their order
 abbrev pub green_records : Net → List (List Green) → ℕ → ℕ → List (List (List ℕ))
@@ -28,7 +29,9 @@ no_totals = record { entered = 0; left = 0; delay = 0 }
 
 -- the record of a link's totals
 abbrev pub link_record : Net → ℕ → LinkTotals → List (List ℕ)
-link_record net link totals = codes "link" ∷ [] ∷ [] ∷ link_name_at net link ∷ decimal totals.entered ∷ decimal totals.left ∷ decimal totals.delay ∷ []
+link_record net link totals =
+    codes "link" ∷ [] ∷ [] ∷ link_name_at net link ∷ decimal totals.entered ∷ decimal totals.left ∷ decimal totals.delay
+    ∷ []
 
 -- the record of a link's totals, out of the totals of all links in their order
 abbrev pub link_record_of : Net → List LinkTotals → ℕ → List (List ℕ)
@@ -36,17 +39,21 @@ link_record_of net links link = link_record net link (slice_index_or links link 
 
 -- the record of all totals
 abbrev pub total_record : Totals → List (List ℕ)
-total_record totals = codes "total" ∷ [] ∷ [] ∷ decimal totals.entered ∷ decimal totals.left ∷ decimal totals.on ∷ decimal totals.delay ∷ []
+total_record totals =
+    codes "total" ∷ [] ∷ [] ∷ decimal totals.entered ∷ decimal totals.left ∷ decimal totals.on ∷ decimal totals.delay
+    ∷ []
 
 -- the records of what the world counted: the totals of each link, and all totals
 abbrev pub counted_records : Net → List LinkTotals → Totals → List (List (List ℕ))
-counted_records net links totals = map (link_record_of net links) (range_with_len 0 (length net.link_names)) ++ total_record totals ∷ []
+counted_records net links totals =
+    map (link_record_of net links) (range_with_len 0 (length net.link_names)) ++ total_record totals ∷ []
 
 -- the records of what the signals showed and the world counted: the greens that are told up to a second, by node and time; the totals
 -- of each link; and all totals
 abbrev pub shown_records : Net → List (List Green) → List LinkTotals → Totals → ℕ → List (List (List ℕ))
 shown_records net lines links totals end =
-    flat_map (green_records net lines end) (range_with_len 0 (length net.node_names)) ++ counted_records net links totals
+    flat_map (green_records net lines end) (range_with_len 0 (length net.node_names))
+    ++ counted_records net links totals
 
 -- the text of records, as `csv` writes them
 abbrev pub records_text : List (List (List ℕ)) → List ℕ

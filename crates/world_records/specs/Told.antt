@@ -14,7 +14,8 @@ told_by through last row = if through then last else row.from
 -- the rows that are told after one that ends at `last`, of a run that ends at `end`
 abbrev pub told_after : Bool → ℕ → ℕ → List Green → List Green
 told_after through end last [] = []
-told_after through end last (row ∷ rows) = if nat_lt (told_by through last row) end then row ∷ told_after through end row.to rows else []
+told_after through end last (row ∷ rows) =
+    if nat_lt (told_by through last row) end then row ∷ told_after through end row.to rows else []
 
 -- The rows of a line that are told: of a node that is through the first, where it begins before the end of the run, and each further
 -- one whose row before it ends before that; of any other node those that begin before the end.
