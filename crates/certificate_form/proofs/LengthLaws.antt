@@ -10,7 +10,7 @@ use Rattle.std.proofs.lemmas.List.Sums.{sum_by-le, sum-map}
 use Rattle.dp_certificate.proofs.NextLaws.{few-listed}
 use Rattle.instance_form.proofs.LengthLaws as form
 use Rattle.instance_form.specs.InstanceText.{instance_text}
-use Rattle.phase_plan.specs.Phases.{is_free}
+use Rattle.phase_plan.specs.Phases.{marks_of}
 use Rattle.schedule_meaning.specs.Instances.{Problem, IsInstance}
 use Rattle.schedule_meaning.specs.declared.planners.Answer.{Answer}
 use Rattle.schedule_meaning.specs.declared.planners.Answer.TheVariants.{Plan, NoPlan}
@@ -89,7 +89,7 @@ text-le c lawful fits =
       length-append front (answer_line c.answer ++ (entries ++ codes "end\n")),
       length-append (answer_line c.answer) (entries ++ codes "end\n"),
       length-append entries (codes "end\n"),
-      form.text-le (is_free p.plan) p.plan p.head p.lists fits.instance,
+      form.text-le (marks_of p.plan) p.plan p.head p.lists fits.instance,
       sum-map length p.lists,
       lawful.instance.few,
       answer-le c.answer fits.answer,

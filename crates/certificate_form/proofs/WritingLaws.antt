@@ -9,7 +9,7 @@ use Rattle.std.proofs.lemmas.List.Sums.{sum-map, sum_by-cons}
 use Rattle.std.proofs.lemmas.List.Concat.{flat_map-append}
 use Rattle.instance_form.specs.InstanceText.{line, instance_text}
 use Rattle.instance_form.specs.InstanceText as form
-use Rattle.phase_plan.specs.Phases.{is_free}
+use Rattle.phase_plan.specs.Phases.{marks_of}
 use Rattle.switch_rules.specs.declared.Cluster.{Cluster}
 use Rattle.schedule_meaning.specs.Instances.{Problem, IsInstance, counts_of, list_at}
 use Rattle.dp_certificate.specs.Certificates.{Claim, IsCertificate, IsEntry}
@@ -78,8 +78,8 @@ entry_behind phases e text now front back is_front is_back is =
 pub text_parts : (c : Claim) → certificate_text c ≡ (codes "certificate 1\n" ++ instance_text c.problem.plan c.problem.head c.problem.lists)
     ++ (answer_line c.answer ++ (flat_map (entry_line (length c.problem.plan)) c.entries ++ codes "end\n"))
 text_parts c =
-    let free = is_free c.problem.plan in
-    certificate_is free c ∙ sym (append_assoc (codes "certificate 1\n") (problem_text free c.problem) (tail_text (length c.problem.plan) c.answer c.entries))
+    let marks = marks_of c.problem.plan in
+    certificate_is marks c ∙ sym (append_assoc (codes "certificate 1\n") (problem_text marks c.problem) (tail_text (length c.problem.plan) c.answer c.entries))
 
 -- ---- a certificate has a spelling
 

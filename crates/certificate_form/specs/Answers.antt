@@ -1,6 +1,7 @@
 -- What reading a certificate's text answers.
-use Rattle.std.specs.Prelude.{◌≡◌, ℕ, Bool, List}
-use Rattle.instance_form.specs.InstanceText.{IsFreeWhere}
+use Rattle.std.specs.Prelude.{◌≡◌, ℕ, List}
+use Rattle.phase_plan.specs.declared.Marks.{Marks}
+use Rattle.instance_form.specs.InstanceText.{IsMarkedWhere}
 use Rattle.schedule_meaning.specs.Texts.{IsPlanWhere, IsPlanFaultWhere}
 use Rattle.instance_form.specs.declared.form.FormFault.{FormFault}
 use Rattle.instance_form.specs.declared.form.FormFault.TheVariants as form
@@ -40,20 +41,20 @@ of_form form.NoMemory = NoMemory
 abbrev pub IsCertificateText : List ℕ → Claim → Type 0
 IsCertificateText bytes c = HasText c × (bytes ≡ certificate_text c)
 
--- the bytes have the form of a text, and this is what they say, and whether the ring may be free
-pub record IsFormText (bytes : List ℕ) (free : Bool) (c : Claim) : Type 0 where
+-- the bytes have the form of a text, and this is what they say, and how many phases they say to be marked
+pub record IsFormText (bytes : List ℕ) (marks : Marks) (c : Claim) : Type 0 where
   pub fits : HasText c
-  pub ring : IsFreeWhere free c.problem.plan
-  pub text : bytes ≡ whole_certificate free c
+  pub ring : IsMarkedWhere marks c.problem.plan
+  pub text : bytes ≡ whole_certificate marks c
 
 -- why bytes are no certificate's text: they have not the form of a text, and this is the first line that has not the
 -- form of its place; or else the fault of the phases; or else that of the instance; or else that of the certificate
 abbrev pub IsTextFault : List ℕ → CertText → Type 0
-IsTextFault bytes (Line n) = IsFirstFault n bytes × ((free : Bool) (c : Claim) → ¬ IsFormText bytes free c)
+IsTextFault bytes (Line n) = IsFirstFault n bytes × ((marks : Marks) (c : Claim) → ¬ IsFormText bytes marks c)
 IsTextFault bytes (Plan fault) =
-    (free : Bool) × (c : Claim) × IsFormText bytes free c × IsPlanFaultWhere free c.problem.plan fault
+    (marks : Marks) × (c : Claim) × IsFormText bytes marks c × IsPlanFaultWhere marks c.problem.plan fault
 IsTextFault bytes (Instance fault) =
-    (free : Bool) × (c : Claim) × IsFormText bytes free c × IsPlanWhere free c.problem.plan
+    (marks : Marks) × (c : Claim) × IsFormText bytes marks c × IsPlanWhere marks c.problem.plan
     × IsInstanceFault c.problem fault
 IsTextFault bytes (Cert fault) = (c : Claim) × IsCertificateText bytes c × IsInstance c.problem × IsCertFault c fault
 IsTextFault bytes NoMemory = Unit {0}

@@ -1,11 +1,12 @@
 -- The one text of a certificate.
-use Rattle.std.specs.Prelude.{◌≡◌, ℕ, Bool, ◌^◌, ◌<◌, ◌≤◌, List, [], ◌∷◌, ◌++◌, length, map, take, slice_index, All, codes}
+use Rattle.std.specs.Prelude.{◌≡◌, ℕ, ◌^◌, ◌<◌, ◌≤◌, List, [], ◌∷◌, ◌++◌, length, map, take, slice_index, All, codes}
 use Rattle.std.specs.List.{flat_map, concat}
 use Rattle.std.specs.Fmt.{decimal}
 pub use Rattle.text_lines.specs.Numbers.{after_space}
 use Rattle.instance_form.specs.InstanceText.{line, whole_text}
 use Rattle.instance_form.specs.InstanceText as form
-use Rattle.phase_plan.specs.Phases.{is_free}
+use Rattle.phase_plan.specs.declared.Marks.{Marks}
+use Rattle.phase_plan.specs.Phases.{marks_of}
 use Rattle.schedule_meaning.specs.declared.planners.Answer.{Answer}
 use Rattle.schedule_meaning.specs.declared.planners.Answer.TheVariants.{Plan, NoPlan}
 use Rattle.dp_certificate.specs.Certificates.{Claim}
@@ -28,18 +29,18 @@ entry_front phases e = codes "entry" ++ (flat_map after_space (take phases e.cou
 abbrev pub entry_back : Entry → List ℕ
 entry_back e = after_space e.since ++ (after_space e.at ++ (after_space e.delay ++ 10 ∷ []))
 
--- the instance, whose ring may be free or not, the answer and the entries, line by line
-unfoldable pub whole_certificate : Bool → Claim → List ℕ
-whole_certificate free c = concat (
+-- the instance, of which so many phases are said to be marked, the answer and the entries, line by line
+unfoldable pub whole_certificate : Marks → Claim → List ℕ
+whole_certificate marks c = concat (
     line (codes "certificate 1" ∷ []) ∷
-    whole_text free c.problem.plan c.problem.head c.problem.lists ∷
+    whole_text marks c.problem.plan c.problem.head c.problem.lists ∷
     answer_line c.answer ∷
     flat_map (entry_line (length c.problem.plan)) c.entries ∷
     line (codes "end" ∷ []) ∷ [])
 
--- the text of a certificate, whose ring is free where all phases are marked
+-- the text of a certificate, which says how many phases are marked
 abbrev pub certificate_text : Claim → List ℕ
-certificate_text c = whole_certificate (is_free c.problem.plan) c
+certificate_text c = whole_certificate (marks_of c.problem.plan) c
 
 -- the numbers of an answer and of an entry are below their types' limits; an entry has a count for each of four phases,
 -- and none for those past the last

@@ -1,6 +1,7 @@
 //! Reading a certificate's text.
 
-ghost use Rattle.std.specs.Prelude.{◌≡◌, ◌+◌, ◌^◌, ◌<◌, ◌≤◌, length, Bool, IfErr, IfOk, MatchResult};
+ghost use Rattle.std.specs.Prelude.{◌≡◌, ◌+◌, ◌^◌, ◌<◌, ◌≤◌, length, IfErr, IfOk, MatchResult};
+ghost use Rattle.phase_plan.specs.declared.Marks.{Marks};
 ghost use Rattle.instance_form.specs.Answers as form;
 ghost use Rattle.instance_form.specs.{Lines.seen, Reading.Gives};
 ghost use Rattle.certificate_form.specs.{Answers.IsFormText, Answers.IsTextFault, Answers.IsOutOfMemory, Answers.claim_of_lines, CertificateText.HasText, CertificateText.certificate_text, Reading.answer_at, Reading.end_at, Reading.plan_at};
@@ -75,7 +76,7 @@ pub fn read_certificate(alloc: Global, bytes: &[u8]) -> Result<Certificate, Cert
         answer,
         entries,
     } = read_lines(alloc, bytes)?;
-    let plan = match plan_where(form.free_ring, form.phases) {
+    let plan = match plan_where(form.marks, form.phases) {
         Ok(plan) => plan,
         Err(fault) => return Err(CertText::Plan(fault)),
     };
@@ -99,9 +100,9 @@ pub fn law_of_certificates()
 /// What the lines of a certificate's text say.
 fn read_lines(alloc: Global, bytes: &[u8]) -> Result<Lines, FormFault>
     requires { length bytes.now < 2 ^ 32 }
-    ensures ok { IfOk result (λ x. IsFormText bytes.now x.form.free_ring (claim_of_lines x)) }
-    ensures only { (free : Bool) (c : Claim) → IsFormText bytes.now free c
-        → MatchResult result (λ x. (x.form.free_ring ≡ free) × (claim_of_lines x ≡ c)) form.IsOutOfMemory }
+    ensures ok { IfOk result (λ x. IsFormText bytes.now x.form.marks (claim_of_lines x)) }
+    ensures only { (marks : Marks) (c : Claim) → IsFormText bytes.now marks c
+        → MatchResult result (λ x. (x.form.marks ≡ marks) × (claim_of_lines x ≡ c)) form.IsOutOfMemory }
     ensures first { IfErr result (IsLineFault bytes.now) }
     ensures short { IfOk result (λ x. IsShort x.answer) }
     ensures few { IfOk result (λ x. length x.entries.items < 2 ^ 32) }

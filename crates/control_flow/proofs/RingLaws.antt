@@ -1,10 +1,10 @@
 -- How long the ring takes, and that no green of it is followed by one of its phase.
-use Rattle.std.proofs.Common.{◌≡◌, ◌≢◌, ℕ, zero, suc, ◌+◌, ◌-◌, ◌<◌, ◌≤◌, Bool, true, false, ◌||◌, ◌==◌, cond, ltb, List, [], ◌∷◌, ◌++◌, length, filter, map, count_by, All, inl, inr, refl, sym, ap, subst, ◌∙◌, arith}
+use Rattle.std.proofs.Common.{◌≡◌, ◌≢◌, ℕ, zero, suc, ◌+◌, ◌-◌, ◌<◌, ◌≤◌, Bool, true, false, ◌||◌, ◌==◌, cond, ltb, List, [], ◌∷◌, ◌++◌, length, filter, map, All, inl, inr, refl, sym, ap, subst, ◌∙◌, arith}
 use Rattle.std.specs.List.{range_with_len}
-use Rattle.std.proofs.lemmas.Bool.{and_from, cases_Bool, cases_lt, cond_above, cond_below, cond_both, eq-eqb, eqb-false, false≢true, ltb-true, ltb-false, or_parts}
-use Rattle.std.proofs.lemmas.List.Elements.{All-cons, All-nil, filter-append}
+use Rattle.std.proofs.lemmas.Bool.{and_from, cases_Bool, cases_lt, cond_above, cond_below, cond_both, eq-eqb, false≢true, ltb-true, ltb-false, or_parts}
+use Rattle.std.proofs.lemmas.List.Elements.{All-cons, All-head, All-nil, All-tail, All-weaker, filter-append}
 use Rattle.std.proofs.lemmas.List.Sums.{sum_by-cons}
-use Rattle.phase_plan.specs.Phases.{IsRing, between, is_free, is_passed, is_unmarked, is_unmarked_at, passed_numbers, passes_all, phase_at, passing, stops_between, switch_time}
+use Rattle.phase_plan.specs.Phases.{IsRing, between, is_passed, is_unmarked_at, passed_numbers, passes_all, phase_at, passing, stops_between, switch_time}
 use Rattle.phase_plan.specs.declared.Phase.{Phase}
 use Rattle.phase_plan.proofs.RingLaws.{time_at}
 use Rattle.control_flow.specs.Timelines.{begin_after}
@@ -79,38 +79,25 @@ each-other P plan s all k below other =
           each-of-range P (s + 1) (length plan) both.0 k (omega arith) below
     ]
 
-none-counted : (p : Phase → Bool) (xs : List Phase) → ((k : ℕ) → k < length xs → p (phase_at xs k) ≡ false) → count_by p xs ≡ 0
-none-counted p [] h = refl
-none-counted p (x ∷ xs) h =
-    let here = h 0 (omega arith) in
-    omega (arith, sum_by-cons (λ y. cond (p y) 1 0) x xs, ap {B = ℕ} (λ b. cond b 1 0) here, none-counted p xs (λ k lt. h (suc k) (omega arith)))
-
-one-counted : (p : Phase → Bool) (xs : List Phase) (s : ℕ) → ((k : ℕ) → k < length xs → k ≢ s → p (phase_at xs k) ≡ false) → count_by p xs ≤ 1
-one-counted p [] s h = omega arith
-one-counted p (x ∷ xs) zero h =
-    let none = none-counted p xs (λ k lt. h (suc k) (omega arith) (λ e. omega arith)) in
-    let most : cond (p x) 1 0 ≤ 1 = cond_both (p x) 1 0 (λ n. n ≤ 1) (λ _. omega arith) (λ _. omega arith) in
-    omega (arith, sum_by-cons (λ y. cond (p y) 1 0) x xs, none, most)
-one-counted p (x ∷ xs) (suc s) h =
-    let here = h 0 (omega arith) (λ e. omega arith) in
-    omega (arith, sum_by-cons (λ y. cond (p y) 1 0) x xs, ap {B = ℕ} (λ b. cond b 1 0) here, one-counted p xs s (λ k lt other. h (suc k) (omega arith) (λ e. other (omega arith))))
+none-left : (test : ℕ → Bool) (xs : List ℕ) → All (λ k. test k ≡ false) xs → length (filter test xs) ≡ 0
+none-left test [] h = refl
+none-left test (x ∷ xs) h =
+    ap (λ (b : Bool). length (cond b (x ∷ filter test xs) (filter test xs))) (All-head (λ k. test k ≡ false) x xs h)
+    ∙ none-left test xs (All-tail (λ k. test k ≡ false) x xs h)
 
 passes-some : (plan : List Phase) (s : ℕ) → IsRing plan → s < length plan → passed_numbers plan s s ≡ [] → ⊥
 passes-some plan s p h empty =
     let pass = is_passed plan s s in
-    let none = each-other (λ k. pass k ≡ false) plan s (none-passes pass (between plan s s) empty) in
+    let none = none-passes pass (between plan s s) empty in
     let parts = λ (k : ℕ) (e : pass k ≡ false). or_parts (is_unmarked_at plan k) (passes_all plan s s) e in
-    let unpassed = λ (k : ℕ) (free : is_free plan ≡ true) (below : k < length plan) (other : k ≢ s).
-    let no : ⊥ = false≢true (sym (parts k (none k below other)).1 ∙ and_from (is_free plan) (s == s) free (eq-eqb s s refl)) in no in
-    elim (cases_Bool (is_free plan)) [
-      | inl free ↦ elim (cases_lt 0 s) [
-        | inl later ↦ unpassed 0 free (omega arith) (λ e. omega arith)
-        | inr first ↦ unpassed 1 free (omega (arith, p.count.0)) (λ e. omega arith)
-      ]
-      | inr bound ↦
-          let some = eqb-false (count_by is_unmarked plan) 0 bound in
-          let few = one-counted is_unmarked plan s (λ k below other. (parts k (none k below other)).0) in
-          p.ring (omega (arith, few, some))
+    let unmarked = All-weaker (λ k. pass k ≡ false) (λ k. is_unmarked_at plan k ≡ false) (λ k e. (parts k e).0) (between plan s s) none in
+    let all : passes_all plan s s ≡ true =
+    and_from (s == s) (length (stops_between plan (is_unmarked_at plan) s s) == 0) (eq-eqb s s refl) (eq-eqb _ 0 (none-left (is_unmarked_at plan) (between plan s s) unmarked)) in
+    let unpassed = λ (k : ℕ) (below : k < length plan) (other : k ≢ s).
+    let no : ⊥ = false≢true (sym (parts k (each-other (λ k. pass k ≡ false) plan s none k below other)).1 ∙ all) in no in
+    elim (cases_lt 0 s) [
+      | inl later ↦ unpassed 0 (omega arith) (λ e. omega arith)
+      | inr first ↦ unpassed 1 (omega (arith, p.count.0)) (λ e. omega arith)
     ]
 
 -- the phases that a ring passes: no green is followed by one of its phase

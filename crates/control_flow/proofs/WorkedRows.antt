@@ -223,9 +223,24 @@ free_turns = refl
 free_called : turned free (stops_at free (0 ∷ 0 ∷ 1 ∷ [])) (head 0 0 0) 5 25 ≡ green 0 0 5 ∷ green 2 10 15 ∷ green 0 20 25 ∷ green 2 30 35 ∷ []
 free_called = refl
 
--- a call takes the marks of all, and in another ring its own
-free_recalled : recalled free (λ k. k == 1) ≡ three
+-- a recalled phase alone has no mark, in a free ring too
+abbrev one_recalled : List Phase
+one_recalled = record usual { skip = true } ∷ usual ∷ record usual { skip = true } ∷ []
+
+free_recalled : recalled free (λ k. k == 1) ≡ one_recalled
 free_recalled = refl
+
+-- it is not passed, neither on the way to another phase nor from one to itself; nobody else is green on the way
+recalled_line : line_of one_recalled (head 0 0 0) (2 ∷ 2 ∷ []) (direct_served ∷ again_served ∷ []) 60
+    ≡ green 0 0 5 ∷ green 1 10 15 ∷ green 2 20 45 ∷ green 1 50 55 ∷ green 2 60 90 ∷ []
+recalled_line = refl
+
+-- from it to itself the ring turns as if none were marked, and with no plan from it to the one after it
+recalled_again : passed_numbers one_recalled 1 1 ≡ 2 ∷ 0 ∷ []
+recalled_again = refl
+
+recalled_turns : rotation_of one_recalled (head 1 0 0) 20 ≡ green 1 0 5 ∷ green 2 10 15 ∷ green 1 20 25 ∷ []
+recalled_turns = refl
 
 free_uncalled : recalled free (λ k. k == 3) ≡ free
 free_uncalled = refl

@@ -2,7 +2,6 @@
 
 ghost use Rattle.std.specs.Prelude.{◌≡◌, ℕ, ◌+◌, ◌-◌, ◌<◌, ◌≤◌, ◌++◌, ◌||◌, filter, length, All, OnOk, IfOk};
 ghost use Rattle.std.specs.List.{range_with_len};
-ghost use Rattle.phase_plan.specs.Phases as spec;
 ghost use Rattle.phase_plan.specs.Phases.{IsRing, is_unmarked_at, passed_numbers, phase_at};
 ghost use Rattle.switch_rules.specs.{Bounds.latest_time, Serving.IsHead, Serving.earliest_end, Serving.earliest_green};
 ghost use Rattle.control_flow.specs.Greens.{AreApart, BeginBy, GoesOn, IsLawful, end_of};
@@ -185,7 +184,7 @@ fn pass(
     ensures { OnOk result (rows.new.items
         ≡ rows.old.items ++ shortest_greens plan.now from (passed_numbers plan.now leaving wanted)) }
 {
-    let all = passes_all(plan, leaving, wanted);
+    let all = plan.passes_all(leaving, wanted);
     if leaving < wanted {
         add_shortest(plan, leaving + 1, wanted, all, from, rows)?;
     } else {
@@ -193,13 +192,6 @@ fn pass(
         add_shortest(plan, 0, wanted, all, from, rows)?;
     }
     Ok(())
-}
-
-/// Whether the ring passes all others on its way between two phases: it is free, and they are the same.
-fn passes_all(plan: &PhasePlan, leaving: u8, wanted: u8) -> bool
-    ensures { result ≡ spec.passes_all plan.now leaving wanted }
-{
-    plan.is_free() && leaving == wanted
 }
 
 /// Adds greens of the unmarked phases from `low` up to `high`, or of all, each of its least length, from `from` on; the

@@ -112,7 +112,7 @@ module _ (net : Net) (network : IsNetwork net) (arriving : ℕ → ℕ → ℕ) 
       let rows : List Green = line_in run.timelines node in
       let greens = (kept.kept.lawful node below).greens in
       told-all IsToldGreen (is_through net node) end (row_at rows 0).from rows
-      (λ k d inside. row-fits (plan_at net node) (network.outline.plans node [] (omega (arith, below, network.outline.plan_count))) (get_or rows k d) (greens k d inside) (begins-last node below k d inside))
+      (λ k d inside. row-fits (plan_at net node) (network.outline.plans node [] (omega (arith, below, network.outline.plan_count))).ring (get_or rows k d) (greens k d inside) (begins-last node below k d inside))
 
   -- the records of the report
   pub report-clean : IsCleanText net arriving (report_text net run history)

@@ -51,7 +51,7 @@ taken-none net reader none first = record {
 -- the rows that were taken are few
 pub taken-few : (net : Net) → IsNetwork net → (all : List (List (List ℕ))) → AreCounted (HasRead net) all
 taken-few net network all =
-    let phases : (node : ℕ) → node < length net.node_names → length (plan_at net node) ≤ 4 = λ node below. (network.outline.plans node [] (omega (arith, below, network.outline.plan_count))).count.1 in
+    let phases : (node : ℕ) → node < length net.node_names → length (plan_at net node) ≤ 4 = λ node below. (network.outline.plans node [] (omega (arith, below, network.outline.plan_count))).ring.count.1 in
     λ header front here rest reader are taken. omega (arith, rows-few net phases network.outline.node_count.1 reader.rows.items taken.lawful, each-length (parse_in net) front reader.rows.items taken.reads)
 
 -- the last row that was taken is one of the network

@@ -12,8 +12,8 @@ use Rattle.phase_plan.specs.declared.Phase.{Phase}
 use Rattle.switch_rules.specs.declared.Head.{Head}
 use Rattle.switch_rules.specs.declared.Cluster.{Cluster}
 use Rattle.instance_form.specs.declared.form.Version.{Version}
-use Rattle.instance_form.specs.declared.form.Version.TheVariants.{One, Two, Three, Four}
-use Rattle.instance_form.specs.Versions.{is_loaded, has_load, has_loads, says_free}
+use Rattle.instance_form.specs.declared.form.Version.TheVariants.{One, Two, Three, Four, Five}
+use Rattle.instance_form.specs.Versions.{is_loaded, has_load, has_loads, marks_said}
 use Rattle.instance_form.specs.Reading.{can_be_all, may_end}
 use Rattle.instance_form.specs.Faults.{BeginsText}
 use Rattle.instance_form.specs.InstanceText.{first_line, count_line, phase_line, head_line, cluster_line, cluster_lines, form_text, IsWritableHead}
@@ -30,6 +30,7 @@ mark_for One = false
 mark_for Two = true
 mark_for Three = false
 mark_for Four = true
+mark_for Five = false
 
 abbrev pub no_phase : Version → Phase
 no_phase v = record { least = 0; greatest = 0; yellow = 0; clear = 0; loss = 0; wait = 0; skip = mark_for v }
@@ -39,6 +40,7 @@ said_mark One = refl
 said_mark Two = tt
 said_mark Three = tt
 said_mark Four = refl
+said_mark Five = tt
 
 said_no_phase : (v : Version) → IsSaidPhase v (no_phase v)
 said_no_phase v = record {
@@ -63,6 +65,7 @@ load_for One = 0
 load_for Two = 0
 load_for Three = 1
 load_for Four = 0
+load_for Five = 0
 
 abbrev no_cluster : Version → Cluster
 no_cluster v = record { size = 0; load = load_for v; arr = 0; len = 0 }
@@ -72,12 +75,14 @@ small_load One = omega arith
 small_load Two = omega arith
 small_load Three = omega arith
 small_load Four = omega arith
+small_load Five = omega arith
 
 said_load : (v : Version) → IsSaidLoad v 0 (load_for v)
 said_load One = refl
 said_load Two = refl
 said_load Three = tt
 said_load Four = tt
+said_load Five = tt
 
 said_no_cluster : (v : Version) → IsSaidCluster v (no_cluster v)
 said_no_cluster v = record {
@@ -127,6 +132,7 @@ last-ends One lists some = refl
 last-ends Two lists some = refl
 last-ends Three lists some = last-loads lists (no_cluster Three) some refl
 last-ends Four lists some = refl
+last-ends Five lists some = refl
 
 -- it is one line more
 last-line : (v : Version) (k : ℕ) (lists : List (List Cluster)) (c : Cluster) → 1 ≤ length lists → (j : ℕ) × (cluster_lines v k (with_last lists c) ≡ cluster_lines v k lists ++ cluster_line v j c)
@@ -186,7 +192,7 @@ begins_body v n plan h lists low high len each said whole small clusters =
     let as_many = last-length lists (no_cluster v) in
     let tail = phases ++ (head_line h ++ (cluster_lines v 0 lists ++ (one ++ codes "end\n"))) in
     record {
-      free = says_free v;
+      marks = marks_said v;
       plan = plan;
       head = h;
       lists = more;
@@ -202,7 +208,7 @@ begins_body v n plan h lists low high len each said whole small clusters =
 
 -- a front of what begins a text begins it
 begins_front : (F more : List ℕ) → BeginsText (F ++ more) → BeginsText F
-begins_front F more b = record { free = b.free; plan = b.plan; head = b.head; lists = b.lists; rest = more ++ b.rest; fits = b.fits; ring = b.ring; text = b.text ∙ append_assoc F more b.rest }
+begins_front F more b = record { marks = b.marks; plan = b.plan; head = b.head; lists = b.lists; rest = more ++ b.rest; fits = b.fits; ring = b.ring; text = b.text ∙ append_assoc F more b.rest }
 
 -- all phases
 pub begins_plan : (v : Version) (n : ℕ) (ps : List Phase) → 2 ≤ n → n ≤ 4 → length ps ≡ n → AllByRecursion (IsSaidPhase v) ps → can_be_all v ps ≡ true → BeginsText (opening v n ++ flat_map (phase_line v) ps)
@@ -217,6 +223,7 @@ few_whole One ps m = refl
 few_whole Two ps m = list_any-append (λ (p : Phase). p.skip) ps (replicate (suc m) (no_phase Two)) ∙ or-true _
 few_whole Three ps m = refl
 few_whole Four ps m = refl
+few_whole Five ps m = refl
 
 pub begins_phases : (v : Version) (n : ℕ) (ps : List Phase) → 2 ≤ n → n ≤ 4 → length ps < n → AllByRecursion (IsSaidPhase v) ps → BeginsText (opening v n ++ flat_map (phase_line v) ps)
 begins_phases v n ps low high few said =

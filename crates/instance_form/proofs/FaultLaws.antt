@@ -13,7 +13,7 @@ use Rattle.switch_rules.specs.declared.Head.{Head}
 use Rattle.switch_rules.specs.declared.Cluster.{Cluster}
 use Rattle.instance_form.specs.Faults.{BeginsText, BeginsFront, IsFirstFault}
 use Rattle.instance_form.specs.declared.form.Version.{Version}
-use Rattle.instance_form.specs.declared.form.Version.TheVariants.{One, Two, Three, Four}
+use Rattle.instance_form.specs.declared.form.Version.TheVariants.{One, Two, Three, Four, Five}
 use Rattle.instance_form.specs.InstanceText.{first_line, count_line, mark, phase_numbers, phase_line, freshness, head_line, cluster_numbers, cluster_line, cluster_lines, IsWritableHead, IsWritableCluster}
 use Rattle.instance_form.proofs.LineLaws.{IsSaidPhase, IsSaidCluster}
 
@@ -25,6 +25,7 @@ first_is_line One = record { body = codes "instance 1"; no_feed = refl; ended = 
 first_is_line Two = record { body = codes "instance 2"; no_feed = refl; ended = refl }
 first_is_line Three = record { body = codes "instance 3"; no_feed = refl; ended = refl }
 first_is_line Four = record { body = codes "instance 4"; no_feed = refl; ended = refl }
+first_is_line Five = record { body = codes "instance 5"; no_feed = refl; ended = refl }
 
 pub last_is_line : IsTextLine (codes "end\n")
 unfolding line_feeds
@@ -50,6 +51,7 @@ phase_is_line One p said = line_is (codes "phase" ∷ map decimal (phase_numbers
 phase_is_line Two p said = line_is (codes "phase" ∷ (map decimal (phase_numbers p) ++ mark p.skip ∷ [])) (feeds_in_times p (mark p.skip ∷ []) said.fits (feeds_in_mark p.skip, tt))
 phase_is_line Three p said = line_is (codes "phase" ∷ (map decimal (phase_numbers p) ++ mark p.skip ∷ [])) (feeds_in_times p (mark p.skip ∷ []) said.fits (feeds_in_mark p.skip, tt))
 phase_is_line Four p said = line_is (codes "phase" ∷ (map decimal (phase_numbers p) ++ mark p.skip ∷ [])) (feeds_in_times p (mark p.skip ∷ []) said.fits (feeds_in_mark p.skip, tt))
+phase_is_line Five p said = line_is (codes "phase" ∷ (map decimal (phase_numbers p) ++ mark p.skip ∷ [])) (feeds_in_times p (mark p.skip ∷ []) said.fits (feeds_in_mark p.skip, tt))
 
 feeds_in_freshness : (fresh : Bool) → line_feeds (freshness fresh) ≡ 0
 unfolding line_feeds
@@ -71,6 +73,7 @@ feeds_in_cluster One c fits = let a = fits.size in (feeds_in_number c.size (omeg
 feeds_in_cluster Two c fits = let a = fits.size in (feeds_in_number c.size (omega arith), feeds_in_span c fits)
 feeds_in_cluster Three c fits = let a = fits.size in let b = fits.load in (feeds_in_number c.size (omega arith), (feeds_in_number c.load (omega arith), feeds_in_span c fits))
 feeds_in_cluster Four c fits = let a = fits.size in let b = fits.load in (feeds_in_number c.size (omega arith), (feeds_in_number c.load (omega arith), feeds_in_span c fits))
+feeds_in_cluster Five c fits = let a = fits.size in let b = fits.load in (feeds_in_number c.size (omega arith), (feeds_in_number c.load (omega arith), feeds_in_span c fits))
 
 pub cluster_is_line : (v : Version) (k : ℕ) (c : Cluster) → k < 2 ^ 8 → IsSaidCluster v c → IsTextLine (cluster_line v k c)
 unfolding line_feeds
@@ -103,7 +106,7 @@ pub record NextOfText (T R : List ℕ) : Type 0 where
 
 pub fault_from : (first : ℕ) (bytes F R : List ℕ) → bytes ≡ F ++ R → BeginsText F → ((g : BeginsFront F) → NextOfText g.rest R) → IsFirstFault BeginsFront first (first + line_feeds F) bytes
 fault_from first bytes F R parts begins follows = faulty-here BeginsText BeginsFront first bytes F R parts begins (λ mid g.
-    let met : BeginsFront F = record { free = g.free; plan = g.plan; head = g.head; lists = g.lists; after = g.after; rest = mid ++ g.rest; fits = g.fits; ring = g.ring; text = g.text ∙ append_assoc F mid g.rest } in
+    let met : BeginsFront F = record { marks = g.marks; plan = g.plan; head = g.head; lists = g.lists; after = g.after; rest = mid ++ g.rest; fits = g.fits; ring = g.ring; text = g.text ∙ append_assoc F mid g.rest } in
     let n = follows met in
     let next : NextLine mid R = record { text = n.text; after = n.after; more = g.rest; is_line = n.is_line; parts = n.parts; apart = n.apart } in
     next)

@@ -16,17 +16,18 @@ use Rattle.text_lines.proofs.Feeds.{spread, next_line, line_feeds-nil, line_feed
 use Rattle.text_lines.proofs.FirstLine.{faulty-number}
 use Rattle.text_lines.proofs.Units.{literal_again}
 use Rattle.text_lines.specs.Fields.{literal_at}
+use Rattle.phase_plan.specs.declared.Marks.{Marks}
 use Rattle.phase_plan.specs.declared.Phase.{Phase}
 use Rattle.switch_rules.specs.declared.Head.{Head}
 use Rattle.switch_rules.specs.declared.Cluster.{Cluster}
 use Rattle.instance_form.specs.declared.form.Form.{Form}
 use Rattle.instance_form.specs.declared.form.Version.{Version}
-use Rattle.instance_form.specs.declared.form.Version.TheVariants.{One, Two, Three, Four}
+use Rattle.instance_form.specs.declared.form.Version.TheVariants.{One, Two, Three, Four, Five}
 use Rattle.instance_form.specs.declared.form.FormFault.{FormFault}
 use Rattle.instance_form.specs.declared.form.FormFault.TheVariants.{Line, NoMemory}
 use Rattle.instance_form.specs.Faults.{BeginsText, BeginsFront, IsFirstFault, IsFaultOf}
 use Rattle.instance_form.specs.Versions.{has_marks}
-use Rattle.instance_form.specs.InstanceText.{version_of, first_line, count_line, phase_line, head_line, cluster_line, cluster_lines, whole_text, line_count, IsFreeWhere, IsWritableHead, HasText}
+use Rattle.instance_form.specs.InstanceText.{version_of, first_line, count_line, phase_line, head_line, cluster_line, cluster_lines, whole_text, line_count, IsMarkedWhere, IsWritableHead, HasText}
 use Rattle.instance_form.specs.Lines.{version_line_at, count_line_at, phase_line_at, head_line_at, cluster_line_at}
 use Rattle.instance_form.specs.Reading.{Gives, Parts, parts_of, opening_at, phases_at, plan_at, lists_at, closing_at, form_at, can_be_all, may_end}
 use Rattle.instance_form.proofs.LineLaws.{IsSaidPhase, IsSaidCluster, version_takes, version_again, count_again, phase_takes, phase_again, head_takes, head_again, cluster_again}
@@ -56,12 +57,12 @@ at_number first m n bytes e fault = faulty-number BeginsText BeginsFront first b
 first_line_fault : (first n : ℕ) (bytes : List ℕ) → version_line_at bytes ≡ None → first ≡ n → IsFirstFault BeginsFront first n bytes
 first_line_fault first n bytes none is =
     at_number first (first + line_feeds []) n bytes (omega (arith, line_feeds-nil)) (fault_from first bytes [] bytes refl begins_none (λ g.
-    let v = version_of g.free g.plan g.lists in
+    let v = version_of g.marks g.plan g.lists in
     record {
       text = first_line v;
       after = count_line (length g.plan) ++ after_count v g.plan g.head g.lists g.after;
       is_line = first_is_line v;
-      parts = sym g.text ∙ own_lines g.free g.plan g.head g.lists g.after;
+      parts = sym g.text ∙ own_lines g.marks g.plan g.head g.lists g.after;
       apart = λ u e. none-and-some (version_line_at bytes) (v, u) none (ap version_line_at e ∙ version_again v u);
     }))
 
@@ -70,7 +71,7 @@ count_line_fault v first n bytes rest spelled none is =
     at_number first (first + line_feeds (first_line v)) n bytes (omega (arith, line_feeds_once (first_line v) (first_is_line v))) (fault_from first bytes (first_line v) rest spelled (begins_first v) (λ g.
     record {
       text = count_line (length g.plan);
-      after = after_count (version_of g.free g.plan g.lists) g.plan g.head g.lists g.after;
+      after = after_count (version_of g.marks g.plan g.lists) g.plan g.head g.lists g.after;
       is_line = count_is_line (length g.plan) g.fits.count.1;
       parts = sym (after_version v g).1;
       apart = λ u e. none-and-some (count_line_at rest) (length g.plan, u) none (ap count_line_at e ∙ count_again (length g.plan) u g.fits.count.0 g.fits.count.1);
@@ -220,6 +221,7 @@ whole_fault Two first n count bytes rest R ps low high spelled phases len said n
     (ap has_marks (sym last.2) ∙ none) is
 whole_fault Three first n count bytes rest R ps low high spelled phases len said none is = absurd cc
 whole_fault Four first n count bytes rest R ps low high spelled phases len said none is = absurd cc
+whole_fault Five first n count bytes rest R ps low high spelled phases len said none is = absurd cc
 
 -- a choice that is not there
 chosen_err : {A : Type 0} (b : Bool) (x : A) (m n : ℕ) → cond b (Ok x) (Err m) ≡ Err n → (b ≡ false) × (m ≡ n)
@@ -341,44 +343,44 @@ fault_alone first bytes (Line n) fault = record {
   parts = fault.parts;
   number = fault.number;
   begins = fault.begins;
-  ends = λ longer more e feeds g. fault.ends longer more e feeds (record { free = g.free; plan = g.plan; head = g.head; lists = g.lists; after = []; rest = g.rest; fits = g.fits; ring = g.ring; text = append-nil (whole_text g.free g.plan g.head g.lists) ∙ g.text });
+  ends = λ longer more e feeds g. fault.ends longer more e feeds (record { marks = g.marks; plan = g.plan; head = g.head; lists = g.lists; after = []; rest = g.rest; fits = g.fits; ring = g.ring; text = append-nil (whole_text g.marks g.plan g.head g.lists) ∙ g.text });
 }
 fault_alone first bytes NoMemory fault = tt
 
 -- a text has as many line feeds as lines
-pub feeds_in_text : (free : Bool) (plan : List Phase) (h : Head) (lists : List (List Cluster)) → HasText plan h lists → IsFreeWhere free plan → line_feeds (whole_text free plan h lists) ≡ line_count plan lists
-feeds_in_text free plan h lists fits ring =
-    let v = version_of free plan lists in
+pub feeds_in_text : (marks : Marks) (plan : List Phase) (h : Head) (lists : List (List Cluster)) → HasText plan h lists → IsMarkedWhere marks plan → line_feeds (whole_text marks plan h lists) ≡ line_count plan lists
+feeds_in_text marks plan h lists fits ring =
+    let v = version_of marks plan lists in
     let n = length plan in
     let count = fits.count in
     let each = fits.each in
-    let says = says_own free plan h lists fits ring in
+    let says = says_own marks plan h lists fits ring in
     let tail = flat_map (phase_line v) plan ++ (head_line h ++ (cluster_lines v 0 lists ++ codes "end\n")) in
-    let whole : whole_text free plan h lists ≡ body v n plan h lists ++ codes "end\n" =
-    sym (append-nil (whole_text free plan h lists)) ∙ own_lines free plan h lists [] ∙ sym (opening-append v n tail) ∙ sym (body-append v n plan h lists (codes "end\n")) in
+    let whole : whole_text marks plan h lists ≡ body v n plan h lists ++ codes "end\n" =
+    sym (append-nil (whole_text marks plan h lists)) ∙ own_lines marks plan h lists [] ∙ sym (opening-append v n tail) ∙ sym (body-append v n plan h lists (codes "end\n")) in
     let feeds = feeds_in_body v n plan h lists fits.count.1 (omega arith) says.phases fits.head says.clusters in
     ap line_feeds whole ∙ line_feeds-append (body v n plan h lists) (codes "end\n") ∙ omega (arith, feeds, line_feeds_once (codes "end\n") last_is_line)
 
 -- no text goes on from another
-no_longer : (free : Bool) (plan : List Phase) (h : Head) (lists : List (List Cluster)) (longer mid : List ℕ) (g : BeginsText longer) → HasText plan h lists → IsFreeWhere free plan → longer ≡ whole_text free plan h lists ++ mid → line_feeds mid ≡ 1 → ⊥
-no_longer free plan h lists longer mid g fits ring e one =
-    let text = whole_text g.free g.plan g.head g.lists in
-    let on = spread longer (whole_text free plan h lists) mid g.rest e in
-    let once = text_once g.free free g.plan plan g.head h g.lists lists [] (mid ++ g.rest) g.fits g.ring fits ring (append-nil text ∙ g.text ∙ on) in
+no_longer : (marks : Marks) (plan : List Phase) (h : Head) (lists : List (List Cluster)) (longer mid : List ℕ) (g : BeginsText longer) → HasText plan h lists → IsMarkedWhere marks plan → longer ≡ whole_text marks plan h lists ++ mid → line_feeds mid ≡ 1 → ⊥
+no_longer marks plan h lists longer mid g fits ring e one =
+    let text = whole_text g.marks g.plan g.head g.lists in
+    let on = spread longer (whole_text marks plan h lists) mid g.rest e in
+    let once = text_once g.marks marks g.plan plan g.head h g.lists lists [] (mid ++ g.rest) g.fits g.ring fits ring (append-nil text ∙ g.text ∙ on) in
     omega (arith, one, ap line_feeds once.4, line_feeds-append mid g.rest, line_feeds-nil)
 
 -- Nothing follows the last line.
-pub trailing_fault : (free : Bool) (plan : List Phase) (h : Head) (lists : List (List Cluster)) (bytes rest : List ℕ) (n : ℕ) → HasText plan h lists → IsFreeWhere free plan → bytes ≡ whole_text free plan h lists ++ rest → n ≡ 1 + line_count plan lists → IsFirstFault BeginsText 1 n bytes
-trailing_fault free plan h lists bytes rest n fits ring spelled is =
-    let F = whole_text free plan h lists in
-    let feeds = feeds_in_text free plan h lists fits ring in
+pub trailing_fault : (marks : Marks) (plan : List Phase) (h : Head) (lists : List (List Cluster)) (bytes rest : List ℕ) (n : ℕ) → HasText plan h lists → IsMarkedWhere marks plan → bytes ≡ whole_text marks plan h lists ++ rest → n ≡ 1 + line_count plan lists → IsFirstFault BeginsText 1 n bytes
+trailing_fault marks plan h lists bytes rest n fits ring spelled is =
+    let F = whole_text marks plan h lists in
+    let feeds = feeds_in_text marks plan h lists fits ring in
     record {
       front = F;
       rest = rest;
       parts = spelled;
       number = omega (arith, feeds, is);
-      begins = record { free = free; plan = plan; head = h; lists = lists; rest = []; fits = fits; ring = ring; text = sym (append-nil F) };
+      begins = record { marks = marks; plan = plan; head = h; lists = lists; rest = []; fits = fits; ring = ring; text = sym (append-nil F) };
       ends = λ longer more e more_feeds g.
           let p = next_line F rest longer more (sym spelled ∙ e) (omega (arith, more_feeds, feeds, is)) in
-          no_longer free plan h lists longer p.0 g fits ring p.1 p.3;
+          no_longer marks plan h lists longer p.0 g fits ring p.1 p.3;
     }

@@ -10,6 +10,7 @@ use Rattle.text_lines.specs.Many.{many_at}
 use Rattle.text_lines.proofs.ManyLaws.{TakesMany, many_take, many_again, few_texts}
 use Rattle.text_lines.proofs.Units.{literal_takes, literal_again}
 use Rattle.text_lines.specs.Fields.{literal_at}
+use Rattle.phase_plan.specs.declared.Marks.{Marks}
 use Rattle.phase_plan.specs.declared.Phase.{Phase}
 use Rattle.switch_rules.specs.declared.Head.{Head}
 use Rattle.switch_rules.specs.declared.Cluster.{Cluster}
@@ -17,12 +18,12 @@ use Rattle.instance_form.specs.declared.form.Form.{Form}
 use Rattle.instance_form.specs.declared.form.FormFault.{FormFault}
 use Rattle.instance_form.specs.declared.form.FormFault.TheVariants.{Line, NoMemory}
 use Rattle.instance_form.specs.declared.form.Version.{Version}
-use Rattle.instance_form.specs.Versions.{says_free}
+use Rattle.instance_form.specs.Versions.{marks_said}
 use Rattle.instance_form.specs.Lines.{version_line_at, count_line_at, phase_line_at, head_line_at, cluster_line_at}
 use Rattle.instance_form.specs.Answers.{HasParts, IsOutOfMemory}
-use Rattle.instance_form.specs.InstanceText.{version_of, first_line, count_line, phase_line, head_line, cluster_line, cluster_lines, form_text, whole_text, line_count, HasText, IsFreeWhere}
+use Rattle.instance_form.specs.InstanceText.{version_of, first_line, count_line, phase_line, head_line, cluster_line, cluster_lines, form_text, whole_text, line_count, HasText, IsMarkedWhere}
 use Rattle.instance_form.proofs.LineLaws.{IsSaidPhase, IsSaidCluster, version_takes, version_again, count_takes, count_again, phase_takes, phase_again, head_takes, head_again, cluster_takes, cluster_again, cluster_other, cluster_end}
-use Rattle.instance_form.proofs.VersionLaws.{Says, free_again, text_of_version, said_ring, says_own, said_has_text}
+use Rattle.instance_form.proofs.VersionLaws.{Says, said_again, text_of_version, said_ring, says_own, said_has_text}
 use Rattle.instance_form.specs.Reading.{◌>>=◌, Fails, Gives, Parts, parts_of, opening_at, phases_at, plan_at, lists_at, closing_at, form_at, can_be_all, may_end}
 
 -- what fails, fails whatever comes after it
@@ -168,8 +169,8 @@ lists_again v (cs ∷ ls) k rest few fits none =
 -- what is read and where it was read from
 pub record TakesForm (line : ℕ) (bytes : List ℕ) (x : Parts × ℕ × List ℕ) : Type 0 where
   pub fits : HasText x.0.plan x.0.head x.0.lists
-  pub ring : IsFreeWhere x.0.free x.0.plan
-  pub spelled : bytes ≡ whole_text x.0.free x.0.plan x.0.head x.0.lists ++ x.2
+  pub ring : IsMarkedWhere x.0.marks x.0.plan
+  pub spelled : bytes ≡ whole_text x.0.marks x.0.plan x.0.head x.0.lists ++ x.2
   pub next : x.1 ≡ line + line_count x.0.plan x.0.lists
 
 six_parts : (a b c d e f rest : List ℕ) → concat (a ∷ b ∷ c ∷ d ∷ e ∷ f ∷ []) ++ rest ≡ a ++ (b ++ (c ++ (d ++ (e ++ (f ++ rest)))))
@@ -200,7 +201,7 @@ form_takes line bytes x e =
     let says : Says v plan.0 read.0 = record { phases = phases.2; clusters = lists.small; whole = whole.1; ends = last.0 } in
     let low : 2 ≤ length plan.0 = omega (arith, opening.0, phases.1) in
     let high : length plan.0 ≤ 4 = omega (arith, opening.1, phases.1) in
-    subst (TakesForm line bytes) (same_Ok (record { free = says_free v; plan = plan.0; head = head.0; lists = read.0 }, number + 1, rest) x e3) (record {
+    subst (TakesForm line bytes) (same_Ok (record { marks = marks_said v; plan = plan.0; head = head.0; lists = read.0 }, number + 1, rest) x e3) (record {
       fits = said_has_text v plan.0 head.0 read.0 low high (lists.each ∙ sym phases.1) one.small says;
       ring = said_ring v plan.0 phases.2;
       spelled = rw (text_of_version v plan.0 head.0 read.0 says, regrouped_form v plan.0 head.0 read.0 rest, phases.1) (opening.2
@@ -213,7 +214,7 @@ form_takes line bytes x e =
 
 -- a text of a version that says all of it is read as what it says
 form_again_in : (v : Version) (line : ℕ) (plan : List Phase) (h : Head) (lists : List (List Cluster)) (rest : List ℕ) → HasText plan h lists → Says v plan lists
-    → form_at line (form_text v plan h lists ++ rest) ≡ Ok (record { free = says_free v; plan = plan; head = h; lists = lists }, line + line_count plan lists, rest)
+    → form_at line (form_text v plan h lists ++ rest) ≡ Ok (record { marks = marks_said v; plan = plan; head = h; lists = lists }, line + line_count plan lists, rest)
 unfolding form_at
 form_again_in v line plan h lists rest fits says =
     let last = codes "end\n" ++ rest in
@@ -231,12 +232,12 @@ form_again_in v line plan h lists rest fits says =
     let next : number + 1 ≡ line + line_count plan lists = omega arith in
     rw (first, read_plan, read_head, read_lists, closing_again v lists number rest says.ends, next) refl
 
-pub form_again : (line : ℕ) (free : Bool) (plan : List Phase) (h : Head) (lists : List (List Cluster)) (rest : List ℕ) → HasText plan h lists → IsFreeWhere free plan
-    → form_at line (whole_text free plan h lists ++ rest) ≡ Ok (record { free = free; plan = plan; head = h; lists = lists }, line + line_count plan lists, rest)
+pub form_again : (line : ℕ) (marks : Marks) (plan : List Phase) (h : Head) (lists : List (List Cluster)) (rest : List ℕ) → HasText plan h lists → IsMarkedWhere marks plan
+    → form_at line (whole_text marks plan h lists ++ rest) ≡ Ok (record { marks = marks; plan = plan; head = h; lists = lists }, line + line_count plan lists, rest)
 unfolding whole_text
-form_again line free plan h lists rest fits ring =
-    form_again_in (version_of free plan lists) line plan h lists rest fits (says_own free plan h lists fits ring)
-    ∙ ap (λ (b : Bool). Ok (record { free = b; plan = plan; head = h; lists = lists }, line + line_count plan lists, rest)) (free_again free plan lists)
+form_again line marks plan h lists rest fits ring =
+    form_again_in (version_of marks plan lists) line plan h lists rest fits (says_own marks plan h lists fits ring)
+    ∙ ap (λ (b : Marks). Ok (record { marks = b; plan = plan; head = h; lists = lists }, line + line_count plan lists, rest)) (said_again marks plan lists)
 
 -- ---- what the readers answer
 
@@ -249,30 +250,30 @@ front_takes line bytes (Ok x) given = form_takes line bytes (front_seen x) given
 front_takes line bytes (Err e) given = tt
 
 pub front_only : (line : ℕ) (bytes : List ℕ) (r : Result (Form × ℕ × Bor (List ℕ)) FormFault) → Gives (λ x. (parts_of x.0, x.1, x.2.now)) r (form_at line bytes)
-    → (free : Bool) (plan : List Phase) (h : Head) (lists : List (List Cluster)) (rest : List ℕ) → HasText plan h lists → IsFreeWhere free plan → bytes ≡ whole_text free plan h lists ++ rest
-    → MatchResult r (λ x. HasParts x.0 free plan h lists × (x.2.now ≡ rest)) IsOutOfMemory
-front_only line bytes (Ok x) given free plan h lists rest fits ring e =
-    let same = same_Ok (front_seen x) (record { free = free; plan = plan; head = h; lists = lists }, line + line_count plan lists, rest) (sym given ∙ ap (form_at line) e ∙ form_again line free plan h lists rest fits ring) in (
+    → (marks : Marks) (plan : List Phase) (h : Head) (lists : List (List Cluster)) (rest : List ℕ) → HasText plan h lists → IsMarkedWhere marks plan → bytes ≡ whole_text marks plan h lists ++ rest
+    → MatchResult r (λ x. HasParts x.0 marks plan h lists × (x.2.now ≡ rest)) IsOutOfMemory
+front_only line bytes (Ok x) given marks plan h lists rest fits ring e =
+    let same = same_Ok (front_seen x) (record { marks = marks; plan = plan; head = h; lists = lists }, line + line_count plan lists, rest) (sym given ∙ ap (form_at line) e ∙ form_again line marks plan h lists rest fits ring) in (
       record {
-        ring = ap (λ (y : Parts × ℕ × List ℕ). y.0.free) same;
+        ring = ap (λ (y : Parts × ℕ × List ℕ). y.0.marks) same;
         phases = ap (λ (y : Parts × ℕ × List ℕ). y.0.plan) same;
         head = ap (λ (y : Parts × ℕ × List ℕ). y.0.head) same;
         each = ap (λ (y : Parts × ℕ × List ℕ). y.0.lists) same;
       },
       ap (λ (y : Parts × ℕ × List ℕ). y.2) same,
     )
-front_only line bytes (Err (Line n)) given free plan h lists rest fits ring e =
-    let again : form_at line bytes ≡ Ok (record { free = free; plan = plan; head = h; lists = lists }, line + line_count plan lists, rest) = ap (form_at line) e ∙ form_again line free plan h lists rest fits ring in
+front_only line bytes (Err (Line n)) given marks plan h lists rest fits ring e =
+    let again : form_at line bytes ≡ Ok (record { marks = marks; plan = plan; head = h; lists = lists }, line + line_count plan lists, rest) = ap (form_at line) e ∙ form_again line marks plan h lists rest fits ring in
     no_Err again given
-front_only line bytes (Err NoMemory) given free plan h lists rest fits ring e = tt
+front_only line bytes (Err NoMemory) given marks plan h lists rest fits ring e = tt
 
 -- Each text is that of one form, and none begins another.
-pub text_once : (free may : Bool) (plan others : List Phase) (h g : Head) (lists queues : List (List Cluster)) (x y : List ℕ) → HasText plan h lists → IsFreeWhere free plan → HasText others g queues → IsFreeWhere may others
-    → whole_text free plan h lists ++ x ≡ whole_text may others g queues ++ y → (free ≡ may) × (plan ≡ others) × (h ≡ g) × (lists ≡ queues) × (x ≡ y)
-text_once free may plan others h g lists queues x y fits ring fits' ring' e =
-    let same = same_Ok (record { free = free; plan = plan; head = h; lists = lists }, 0 + line_count plan lists, x) (record { free = may; plan = others; head = g; lists = queues }, 0 + line_count others queues, y)
-    (sym (form_again 0 free plan h lists x fits ring) ∙ ap (form_at 0) e ∙ form_again 0 may others g queues y fits' ring') in (
-      ap (λ (z : Parts × ℕ × List ℕ). z.0.free) same,
+pub text_once : (marks theirs : Marks) (plan others : List Phase) (h g : Head) (lists queues : List (List Cluster)) (x y : List ℕ) → HasText plan h lists → IsMarkedWhere marks plan → HasText others g queues → IsMarkedWhere theirs others
+    → whole_text marks plan h lists ++ x ≡ whole_text theirs others g queues ++ y → (marks ≡ theirs) × (plan ≡ others) × (h ≡ g) × (lists ≡ queues) × (x ≡ y)
+text_once marks theirs plan others h g lists queues x y fits ring fits' ring' e =
+    let same = same_Ok (record { marks = marks; plan = plan; head = h; lists = lists }, 0 + line_count plan lists, x) (record { marks = theirs; plan = others; head = g; lists = queues }, 0 + line_count others queues, y)
+    (sym (form_again 0 marks plan h lists x fits ring) ∙ ap (form_at 0) e ∙ form_again 0 theirs others g queues y fits' ring') in (
+      ap (λ (z : Parts × ℕ × List ℕ). z.0.marks) same,
       ap (λ (z : Parts × ℕ × List ℕ). z.0.plan) same,
       ap (λ (z : Parts × ℕ × List ℕ). z.0.head) same,
       ap (λ (z : Parts × ℕ × List ℕ). z.0.lists) same,

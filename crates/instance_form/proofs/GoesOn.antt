@@ -1,5 +1,5 @@
 -- How each text goes on after what was read.
-use Rattle.std.proofs.Common.{◌≡◌, ℕ, zero, suc, ◌+◌, ◌^◌, ◌<◌, ◌≤◌, ◌⊎◌, Bool, List, [], ◌∷◌, ◌++◌, length, Some, None, refl, sym, ap, subst, ◌∙◌, inl, inr, append_assoc, length-append, arith}
+use Rattle.std.proofs.Common.{◌≡◌, ℕ, zero, suc, ◌+◌, ◌^◌, ◌<◌, ◌≤◌, ◌⊎◌, List, [], ◌∷◌, ◌++◌, length, Some, None, refl, sym, ap, subst, ◌∙◌, inl, inr, append_assoc, length-append, arith}
 use Rattle.std.specs.Prelude.{codes}
 use Rattle.std.specs.List.{flat_map, AllByRecursion}
 use Rattle.std.proofs.lemmas.Option.{same_Some}
@@ -7,6 +7,7 @@ use Rattle.foundation.proofs.OptionLaws.{none-and-some}
 use Rattle.foundation.proofs.ResultLaws.{same_Ok}
 use Rattle.text_lines.specs.Many.{many_at}
 use Rattle.text_lines.proofs.ManyLaws.{many_rest}
+use Rattle.phase_plan.specs.declared.Marks.{Marks}
 use Rattle.phase_plan.specs.declared.Phase.{Phase}
 use Rattle.switch_rules.specs.declared.Head.{Head}
 use Rattle.switch_rules.specs.declared.Cluster.{Cluster}
@@ -25,16 +26,16 @@ abbrev pub after_count : Version → List Phase → Head → List (List Cluster)
 after_count v plan h lists after = flat_map (phase_line v) plan ++ (head_line h ++ (cluster_lines v 0 lists ++ (codes "end\n" ++ after)))
 
 -- a text line by line, in its own version
-pub own_lines : (free : Bool) (plan : List Phase) (h : Head) (lists : List (List Cluster)) (after : List ℕ) → whole_text free plan h lists ++ after ≡ first_line (version_of free plan lists) ++ (count_line (length plan) ++ after_count (version_of free plan lists) plan h lists after)
+pub own_lines : (marks : Marks) (plan : List Phase) (h : Head) (lists : List (List Cluster)) (after : List ℕ) → whole_text marks plan h lists ++ after ≡ first_line (version_of marks plan lists) ++ (count_line (length plan) ++ after_count (version_of marks plan lists) plan h lists after)
 unfolding whole_text
-own_lines free plan h lists after = regrouped_form (version_of free plan lists) plan h lists after
+own_lines marks plan h lists after = regrouped_form (version_of marks plan lists) plan h lists after
 
 -- after the first line: the text has this version
-pub after_version : (v : Version) (g : BeginsFront (first_line v)) → (version_of g.free g.plan g.lists ≡ v) × (count_line (length g.plan) ++ after_count (version_of g.free g.plan g.lists) g.plan g.head g.lists g.after ≡ g.rest)
+pub after_version : (v : Version) (g : BeginsFront (first_line v)) → (version_of g.marks g.plan g.lists ≡ v) × (count_line (length g.plan) ++ after_count (version_of g.marks g.plan g.lists) g.plan g.head g.lists g.after ≡ g.rest)
 after_version v g =
-    let w = version_of g.free g.plan g.lists in
+    let w = version_of g.marks g.plan g.lists in
     let tail = count_line (length g.plan) ++ after_count w g.plan g.head g.lists g.after in
-    let same = same_Some (w, tail) (v, g.rest) (sym (version_again w tail) ∙ ap version_line_at (sym (own_lines g.free g.plan g.head g.lists g.after) ∙ g.text) ∙ version_again v g.rest) in
+    let same = same_Some (w, tail) (v, g.rest) (sym (version_again w tail) ∙ ap version_line_at (sym (own_lines g.marks g.plan g.head g.lists g.after) ∙ g.text) ∙ version_again v g.rest) in
     (ap (λ (p : Version × List ℕ). p.0) same, ap (λ (p : Version × List ℕ). p.1) same)
 
 -- after the opening: its phases are as many, and the rest is what follows
@@ -50,9 +51,9 @@ pub record AfterOpening (v : Version) (n : ℕ) (T : List ℕ) : Type 0 where
 
 pub after_opening : (v : Version) (n : ℕ) (g : BeginsFront (opening v n)) → 2 ≤ n → n ≤ 4 → AfterOpening v n g.rest
 after_opening v n g low high =
-    let w = version_of g.free g.plan g.lists in
+    let w = version_of g.marks g.plan g.lists in
     let tail : Version → List ℕ = λ u. after_count u g.plan g.head g.lists g.after in
-    let e : first_line w ++ (count_line (length g.plan) ++ tail w) ≡ first_line v ++ (count_line n ++ g.rest) = sym (own_lines g.free g.plan g.head g.lists g.after) ∙ g.text ∙ opening-append v n g.rest in
+    let e : first_line w ++ (count_line (length g.plan) ++ tail w) ≡ first_line v ++ (count_line n ++ g.rest) = sym (own_lines g.marks g.plan g.head g.lists g.after) ∙ g.text ∙ opening-append v n g.rest in
     let same = same_Ok (w, length g.plan, tail w) (v, n, g.rest)
     (sym (opening_again w 0 (length g.plan) (tail w) g.fits.count.0 g.fits.count.1) ∙ ap (opening_at 0) e ∙ opening_again v 0 n g.rest low high) in
     let is : w ≡ v = ap (λ (p : Version × ℕ × List ℕ). p.0) same in
@@ -62,14 +63,14 @@ after_opening v n g low high =
       lists = g.lists;
       after = g.after;
       fits = g.fits;
-      says = subst (λ u. Says u g.plan g.lists) is (says_own g.free g.plan g.head g.lists g.fits g.ring);
+      says = subst (λ u. Says u g.plan g.lists) is (says_own g.marks g.plan g.head g.lists g.fits g.ring);
       len = ap (λ (p : Version × ℕ × List ℕ). p.1) same;
       text = ap tail (sym is) ∙ ap (λ (p : Version × ℕ × List ℕ). p.2) same;
     }
 
 -- the same text, seen from a part of its front on
 abbrev pub seen_from : (A T : List ℕ) (F : List ℕ) (g : BeginsFront F) → F ++ g.rest ≡ A ++ T → BeginsFront A
-seen_from A T F g e = record { free = g.free; plan = g.plan; head = g.head; lists = g.lists; after = g.after; rest = T; fits = g.fits; ring = g.ring; text = g.text ∙ e }
+seen_from A T F g e = record { marks = g.marks; plan = g.plan; head = g.head; lists = g.lists; after = g.after; rest = T; fits = g.fits; ring = g.ring; text = g.text ∙ e }
 
 -- the same after what follows the opening
 pub after_more : (v : Version) (n : ℕ) (X : List ℕ) (g : BeginsFront (opening v n ++ X)) → 2 ≤ n → n ≤ 4 → AfterOpening v n (X ++ g.rest)

@@ -7,11 +7,12 @@ use Rattle.std.proofs.lemmas.Fmt.{length-decimal-le}
 use Rattle.std.proofs.lemmas.List.Concat.{length-flat_map}
 use Rattle.std.proofs.lemmas.List.Sums.{sum_by-le, sum_by-cons}
 use Rattle.phase_plan.specs.Phases.{HasU32Times}
+use Rattle.phase_plan.specs.declared.Marks.{Marks}
 use Rattle.phase_plan.specs.declared.Phase.{Phase}
 use Rattle.switch_rules.specs.declared.Head.{Head}
 use Rattle.switch_rules.specs.declared.Cluster.{Cluster}
 use Rattle.instance_form.specs.declared.form.Version.{Version}
-use Rattle.instance_form.specs.declared.form.Version.TheVariants.{One, Two, Three, Four}
+use Rattle.instance_form.specs.declared.form.Version.TheVariants.{One, Two, Three, Four, Five}
 use Rattle.instance_form.specs.InstanceText.{line, version_of, first_line, count_line, mark, phase_numbers, phase_line, freshness, head_line, cluster_numbers, cluster_line, cluster_lines, form_text, whole_text, IsWritableHead, IsWritableCluster, HasText}
 use Rattle.instance_form.specs.Lengths.{most_cluster_bytes, most_other_bytes}
 
@@ -45,6 +46,7 @@ phase_line-le One p h = omega (arith, line-le (codes "phase" ∷ map decimal (ph
 phase_line-le Two p h = line-le (codes "phase" ∷ (map decimal (phase_numbers p) ++ mark p.skip ∷ [])) (times-short p (mark p.skip ∷ []) h (mark-le p.skip, tt))
 phase_line-le Three p h = line-le (codes "phase" ∷ (map decimal (phase_numbers p) ++ mark p.skip ∷ [])) (times-short p (mark p.skip ∷ []) h (mark-le p.skip, tt))
 phase_line-le Four p h = line-le (codes "phase" ∷ (map decimal (phase_numbers p) ++ mark p.skip ∷ [])) (times-short p (mark p.skip ∷ []) h (mark-le p.skip, tt))
+phase_line-le Five p h = line-le (codes "phase" ∷ (map decimal (phase_numbers p) ++ mark p.skip ∷ [])) (times-short p (mark p.skip ∷ []) h (mark-le p.skip, tt))
 
 fresh-le : (b : Bool) → length (freshness b) ≤ 10
 fresh-le true = lit≤ tt
@@ -65,6 +67,7 @@ cluster_line-le One k c small h = omega (arith, line-le (codes "cluster" ∷ map
 cluster_line-le Two k c small h = omega (arith, line-le (codes "cluster" ∷ map decimal (k ∷ cluster_numbers Two c)) (lit≤ tt, (digits-le k small, (digits-le c.size h.size, span-short c h))))
 cluster_line-le Three k c small h = line-le (codes "cluster" ∷ map decimal (k ∷ cluster_numbers Three c)) (lit≤ tt, (digits-le k small, (digits-le c.size h.size, (digits-le c.load h.load, span-short c h))))
 cluster_line-le Four k c small h = line-le (codes "cluster" ∷ map decimal (k ∷ cluster_numbers Four c)) (lit≤ tt, (digits-le k small, (digits-le c.size h.size, (digits-le c.load h.load, span-short c h))))
+cluster_line-le Five k c small h = line-le (codes "cluster" ∷ map decimal (k ∷ cluster_numbers Five c)) (lit≤ tt, (digits-le k small, (digits-le c.size h.size, (digits-le c.load h.load, span-short c h))))
 
 phase_lines-le : (v : Version) (plan : List Phase) → All HasU32Times plan → length (flat_map (phase_line v) plan) ≤ length plan * 89
 phase_lines-le v plan fits =
@@ -90,6 +93,7 @@ first_line-le One = lit≤ tt
 first_line-le Two = lit≤ tt
 first_line-le Three = lit≤ tt
 first_line-le Four = lit≤ tt
+first_line-le Five = lit≤ tt
 
 added : (opening count phases head clusters closing n c : ℕ) → opening ≤ 12 → count ≤ 23 → phases ≤ n * 89 → head ≤ 56 → clusters ≤ most_cluster_bytes * c → closing ≤ 4 → n ≤ 4
     → opening + (count + (phases + (head + (clusters + (closing + 0))))) ≤ most_cluster_bytes * c + most_other_bytes
@@ -99,10 +103,10 @@ six : (a b c d e f : List ℕ) → length (concat (a ∷ b ∷ c ∷ d ∷ e ∷
 six a b c d e f = simp length-append
 
 -- how many bytes a text has at most
-pub text-le : (free : Bool) (plan : List Phase) (h : Head) (lists : List (List Cluster)) → HasText plan h lists → length (whole_text free plan h lists) ≤ most_cluster_bytes * sum_by (λ list. length list) lists + most_other_bytes
+pub text-le : (marks : Marks) (plan : List Phase) (h : Head) (lists : List (List Cluster)) → HasText plan h lists → length (whole_text marks plan h lists) ≤ most_cluster_bytes * sum_by (λ list. length list) lists + most_other_bytes
 unfolding whole_text form_text
-text-le free plan h lists fits =
-    let v = version_of free plan lists in
+text-le marks plan h lists fits =
+    let v = version_of marks plan lists in
     let few : length plan ≤ 4 = fits.count.1 in
     omega (
       arith,

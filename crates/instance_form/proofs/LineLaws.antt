@@ -13,7 +13,7 @@ use Rattle.phase_plan.specs.declared.Phase.{Phase}
 use Rattle.switch_rules.specs.declared.Head.{Head}
 use Rattle.switch_rules.specs.declared.Cluster.{Cluster}
 use Rattle.instance_form.specs.declared.form.Version.{Version}
-use Rattle.instance_form.specs.declared.form.Version.TheVariants.{One, Two, Three, Four}
+use Rattle.instance_form.specs.declared.form.Version.TheVariants.{One, Two, Three, Four, Five}
 use Rattle.instance_form.specs.InstanceText.{first_line, count_line, phase_numbers, phase_line, head_line, cluster_line, IsWritableHead, IsWritableCluster}
 use Rattle.instance_form.specs.Lines.{numbers_at, value_at, version_line_at, count_line_at, phase_limits, times_end, mark_end, mark_at, phase_of, phase_line_at, head_limits, head_end, freshness_at, head_of, head_line_at, load_at, span_limits, cluster_line_at}
 use Rattle.instance_form.proofs.NumberLaws.{then_some, space, line_feed, numbers_text, AreBelow, below-length, numbers_take, numbers_again, value_takes, value_first, value_later}
@@ -27,18 +27,23 @@ pub record Takes {A : Type 0} (text : A → List ℕ) (fits : A → Type 0) (byt
 
 pub version_again : (v : Version) (rest : List ℕ) → version_line_at (first_line v ++ rest) ≡ Some (v, rest)
 unfolding literal_at
-version_again One rest = value_first first_line One (Two ∷ Three ∷ Four ∷ []) rest
-version_again Two rest = value_later first_line One (Two ∷ Three ∷ Four ∷ []) (first_line Two ++ rest) (Two, rest) refl (value_first first_line Two (Three ∷ Four ∷ []) rest)
+version_again One rest = value_first first_line One (Two ∷ Three ∷ Four ∷ Five ∷ []) rest
+version_again Two rest = value_later first_line One (Two ∷ Three ∷ Four ∷ Five ∷ []) (first_line Two ++ rest) (Two, rest) refl (value_first first_line Two (Three ∷ Four ∷ Five ∷ []) rest)
 version_again Three rest =
-    value_later first_line One (Two ∷ Three ∷ Four ∷ []) (first_line Three ++ rest) (Three, rest) refl
-    (value_later first_line Two (Three ∷ Four ∷ []) (first_line Three ++ rest) (Three, rest) refl (value_first first_line Three (Four ∷ []) rest))
+    value_later first_line One (Two ∷ Three ∷ Four ∷ Five ∷ []) (first_line Three ++ rest) (Three, rest) refl
+    (value_later first_line Two (Three ∷ Four ∷ Five ∷ []) (first_line Three ++ rest) (Three, rest) refl (value_first first_line Three (Four ∷ Five ∷ []) rest))
 version_again Four rest =
-    value_later first_line One (Two ∷ Three ∷ Four ∷ []) (first_line Four ++ rest) (Four, rest) refl
-    (value_later first_line Two (Three ∷ Four ∷ []) (first_line Four ++ rest) (Four, rest) refl
-    (value_later first_line Three (Four ∷ []) (first_line Four ++ rest) (Four, rest) refl (value_first first_line Four [] rest)))
+    value_later first_line One (Two ∷ Three ∷ Four ∷ Five ∷ []) (first_line Four ++ rest) (Four, rest) refl
+    (value_later first_line Two (Three ∷ Four ∷ Five ∷ []) (first_line Four ++ rest) (Four, rest) refl
+    (value_later first_line Three (Four ∷ Five ∷ []) (first_line Four ++ rest) (Four, rest) refl (value_first first_line Four (Five ∷ []) rest)))
+version_again Five rest =
+    value_later first_line One (Two ∷ Three ∷ Four ∷ Five ∷ []) (first_line Five ++ rest) (Five, rest) refl
+    (value_later first_line Two (Three ∷ Four ∷ Five ∷ []) (first_line Five ++ rest) (Five, rest) refl
+    (value_later first_line Three (Four ∷ Five ∷ []) (first_line Five ++ rest) (Five, rest) refl
+    (value_later first_line Four (Five ∷ []) (first_line Five ++ rest) (Five, rest) refl (value_first first_line Five [] rest))))
 
 pub version_takes : (bytes : List ℕ) (x : Version × List ℕ) → version_line_at bytes ≡ Some x → bytes ≡ first_line x.0 ++ x.1
-version_takes bytes x e = value_takes first_line (One ∷ Two ∷ Three ∷ Four ∷ []) bytes x e
+version_takes bytes x e = value_takes first_line (One ∷ Two ∷ Three ∷ Four ∷ Five ∷ []) bytes x e
 
 -- ---- the number of phases
 
@@ -71,6 +76,7 @@ IsSaidMark One skip = skip ≡ false
 IsSaidMark Two skip = Unit {0}
 IsSaidMark Three skip = Unit {0}
 IsSaidMark Four skip = skip ≡ true
+IsSaidMark Five skip = Unit {0}
 
 -- the line of a phase in this version says all of it
 pub record IsSaidPhase (v : Version) (p : Phase) : Type 0 where
@@ -83,6 +89,7 @@ mark_text One skip = []
 mark_text Two skip = mark_end skip
 mark_text Three skip = mark_end skip
 mark_text Four skip = mark_end skip
+mark_text Five skip = mark_end skip
 
 mark_again : (skip : Bool) (rest : List ℕ) → value_at mark_end (true ∷ false ∷ []) (mark_end skip ++ rest) ≡ Some (skip, rest)
 unfolding literal_at
@@ -94,6 +101,7 @@ marked_again One skip rest said = ap (λ b. Some (b, rest)) (sym said)
 marked_again Two skip rest said = mark_again skip rest
 marked_again Three skip rest said = mark_again skip rest
 marked_again Four skip rest said = rw said (value_first mark_end true [] rest)
+marked_again Five skip rest said = mark_again skip rest
 
 -- the one value that is read
 one_value : {A : Type 0} (text : A → List ℕ) (x : A) (bytes : List ℕ) (y : A × List ℕ) → value_at text (x ∷ []) bytes ≡ Some y → y.0 ≡ x
@@ -109,12 +117,14 @@ marked_takes One bytes x e = let same = same_Some (false, bytes) x e in (ap (λ 
 marked_takes Two bytes x e = (value_takes mark_end (true ∷ false ∷ []) bytes x e, tt)
 marked_takes Three bytes x e = (value_takes mark_end (true ∷ false ∷ []) bytes x e, tt)
 marked_takes Four bytes x e = (value_takes mark_end (true ∷ []) bytes x e, one_value mark_end true bytes x e)
+marked_takes Five bytes x e = (value_takes mark_end (true ∷ false ∷ []) bytes x e, tt)
 
 times_apart : (v : Version) → ¬ IsAsciiDigit (times_end v)
 times_apart One = line_feed
 times_apart Two = space
 times_apart Three = space
 times_apart Four = space
+times_apart Five = space
 
 below_phase : (p : Phase) → HasU32Times p → AreBelow (phase_numbers p) phase_limits
 below_phase p fits = (fits.least, (fits.greatest, (fits.yellow, (fits.clear, (fits.loss, (fits.wait, tt))))))
@@ -125,6 +135,7 @@ regrouped_phase One p rest = simp append_assoc
 regrouped_phase Two p rest = simp append_assoc
 regrouped_phase Three p rest = simp append_assoc
 regrouped_phase Four p rest = simp append_assoc
+regrouped_phase Five p rest = simp append_assoc
 
 pub phase_again : (v : Version) (p : Phase) (rest : List ℕ) → IsSaidPhase v p → phase_line_at v (phase_line v p ++ rest) ≡ Some (p, rest)
 unfolding phase_line_at
@@ -208,6 +219,7 @@ IsSaidLoad One size load = load ≡ size
 IsSaidLoad Two size load = load ≡ size
 IsSaidLoad Three size load = Unit {0}
 IsSaidLoad Four size load = Unit {0}
+IsSaidLoad Five size load = Unit {0}
 
 -- the line of a cluster in this version says all of it
 pub record IsSaidCluster (v : Version) (c : Cluster) : Type 0 where
@@ -220,12 +232,14 @@ load_text One load = []
 load_text Two load = []
 load_text Three load = decimal load ++ 32 ∷ []
 load_text Four load = decimal load ++ 32 ∷ []
+load_text Five load = decimal load ++ 32 ∷ []
 
 load_again : (v : Version) (size load : ℕ) (rest : List ℕ) → IsSaidLoad v size load → load < 2 ^ 32 → load_at v size (load_text v load ++ rest) ≡ Some (load, rest)
 load_again One size load rest said small = ap (λ n. Some (n, rest)) (sym said)
 load_again Two size load rest said small = ap (λ n. Some (n, rest)) (sym said)
 load_again Three size load rest said small = ap (field_at (2 ^ 32) 32) (append_assoc (decimal load) (32 ∷ []) rest) ∙ field_again (2 ^ 32) 32 load rest (omega arith) space small
 load_again Four size load rest said small = ap (field_at (2 ^ 32) 32) (append_assoc (decimal load) (32 ∷ []) rest) ∙ field_again (2 ^ 32) 32 load rest (omega arith) space small
+load_again Five size load rest said small = ap (field_at (2 ^ 32) 32) (append_assoc (decimal load) (32 ∷ []) rest) ∙ field_again (2 ^ 32) 32 load rest (omega arith) space small
 
 load_takes : (v : Version) (size : ℕ) (bytes : List ℕ) (x : ℕ × List ℕ) → size < 2 ^ 32 → load_at v size bytes ≡ Some x → (bytes ≡ load_text v x.0 ++ x.1) × IsSaidLoad v size x.0 × (x.0 < 2 ^ 32)
 load_takes One size bytes x small e =
@@ -242,6 +256,9 @@ load_takes Three size bytes x small e =
 load_takes Four size bytes x small e =
     let t = field_takes (2 ^ 32) 32 bytes x.0 x.1 e in
     (t.1 ∙ sym (append_assoc (decimal x.0) (32 ∷ []) x.1), tt, t.0)
+load_takes Five size bytes x small e =
+    let t = field_takes (2 ^ 32) 32 bytes x.0 x.1 e in
+    (t.1 ∙ sym (append_assoc (decimal x.0) (32 ∷ []) x.1), tt, t.0)
 
 -- a cluster's line after its phase, as its units are read
 abbrev cluster_rest : Version → Cluster → List ℕ → List ℕ
@@ -252,6 +269,7 @@ regrouped_cluster One k c rest = simp append_assoc
 regrouped_cluster Two k c rest = simp append_assoc
 regrouped_cluster Three k c rest = simp append_assoc
 regrouped_cluster Four k c rest = simp append_assoc
+regrouped_cluster Five k c rest = simp append_assoc
 
 pub cluster_again : (v : Version) (k : ℕ) (c : Cluster) (rest : List ℕ) → k < 2 ^ 8 → IsSaidCluster v c → cluster_line_at v k (cluster_line v k c ++ rest) ≡ Some (c, rest)
 unfolding cluster_line_at

@@ -4,12 +4,14 @@ use Rattle.std.specs.List.{flat_map, concat}
 use Rattle.std.specs.Fmt.{decimal}
 pub use Rattle.text_lines.specs.Lines.{line}
 pub use Rattle.instance_form.specs.Versions.{version_of}
+use Rattle.phase_plan.specs.declared.Marks.{Marks}
+use Rattle.phase_plan.specs.declared.Marks.TheVariants as marked
 use Rattle.phase_plan.specs.declared.Phase.{Phase}
-use Rattle.phase_plan.specs.Phases.{HasU32Times, is_free}
+use Rattle.phase_plan.specs.Phases.{HasU32Times, is_free, marks_of}
 use Rattle.switch_rules.specs.declared.Head.{Head}
 use Rattle.switch_rules.specs.declared.Cluster.{Cluster}
 use Rattle.instance_form.specs.declared.form.Version.{Version}
-use Rattle.instance_form.specs.declared.form.Version.TheVariants.{One, Two, Three, Four}
+use Rattle.instance_form.specs.declared.form.Version.TheVariants.{One, Two, Three, Four, Five}
 
 -- the line that says the version
 abbrev pub first_line : Version → List ℕ
@@ -17,6 +19,7 @@ first_line One = line (codes "instance 1" ∷ [])
 first_line Two = line (codes "instance 2" ∷ [])
 first_line Three = line (codes "instance 3" ∷ [])
 first_line Four = line (codes "instance 4" ∷ [])
+first_line Five = line (codes "instance 5" ∷ [])
 
 -- the line that says how many phases there are
 abbrev pub count_line : ℕ → List ℕ
@@ -37,6 +40,7 @@ phase_line One p = line (codes "phase" ∷ map decimal (phase_numbers p))
 phase_line Two p = line (codes "phase" ∷ (map decimal (phase_numbers p) ++ mark p.skip ∷ []))
 phase_line Three p = line (codes "phase" ∷ (map decimal (phase_numbers p) ++ mark p.skip ∷ []))
 phase_line Four p = line (codes "phase" ∷ (map decimal (phase_numbers p) ++ mark p.skip ∷ []))
+phase_line Five p = line (codes "phase" ∷ (map decimal (phase_numbers p) ++ mark p.skip ∷ []))
 
 -- whether the start-up loss is not yet spent
 abbrev pub freshness : Bool → List ℕ
@@ -47,12 +51,13 @@ freshness false = codes "kept"
 abbrev pub head_line : Head → List ℕ
 head_line h = line (codes "head" ∷ decimal h.phase ∷ decimal h.since ∷ decimal h.at ∷ freshness h.fresh ∷ [])
 
--- the numbers of a cluster, in the order of its line; versions 3 and 4 alone say the load
+-- the numbers of a cluster, in the order of its line; versions 3, 4 and 5 alone say the load
 abbrev pub cluster_numbers : Version → Cluster → List ℕ
 cluster_numbers One c = c.size ∷ c.arr ∷ c.len ∷ []
 cluster_numbers Two c = c.size ∷ c.arr ∷ c.len ∷ []
 cluster_numbers Three c = c.size ∷ c.load ∷ c.arr ∷ c.len ∷ []
 cluster_numbers Four c = c.size ∷ c.load ∷ c.arr ∷ c.len ∷ []
+cluster_numbers Five c = c.size ∷ c.load ∷ c.arr ∷ c.len ∷ []
 
 -- the line of a cluster of this phase
 abbrev pub cluster_line : Version → ℕ → Cluster → List ℕ
@@ -73,13 +78,13 @@ form_text v plan head lists = concat (
     cluster_lines v 0 lists ∷
     line (codes "end" ∷ []) ∷ [])
 
--- the text of these in the least version that says them, with whether the ring may be free
-unfoldable pub whole_text : Bool → List Phase → Head → List (List Cluster) → List ℕ
-whole_text free plan head lists = form_text (version_of free plan lists) plan head lists
+-- the text of these in the least version that says them, of which so many are said to be marked
+unfoldable pub whole_text : Marks → List Phase → Head → List (List Cluster) → List ℕ
+whole_text marks plan head lists = form_text (version_of marks plan lists) plan head lists
 
--- the text of an instance, whose ring is free where all phases are marked
+-- the text of an instance, which says how many of its phases are marked
 abbrev pub instance_text : List Phase → Head → List (List Cluster) → List ℕ
-instance_text plan head lists = whole_text (is_free plan) plan head lists
+instance_text plan head lists = whole_text (marks_of plan) plan head lists
 
 -- the numbers of a head and of a cluster are below their types' limits
 pub record IsWritableHead (h : Head) : Type 0 where
@@ -101,9 +106,9 @@ pub record HasText (plan : List Phase) (h : Head) (lists : List (List Cluster)) 
   pub head : IsWritableHead h
   pub clusters : All (All IsWritableCluster) lists
 
--- where the ring may be free, all phases are marked
-abbrev pub IsFreeWhere : Bool → List Phase → Type 0
-IsFreeWhere free plan = free ≡ true → is_free plan ≡ true
+-- where all phases are said to be marked, they are
+abbrev pub IsMarkedWhere : Marks → List Phase → Type 0
+IsMarkedWhere marks plan = marks ≡ marked.All → is_free plan ≡ true
 
 -- how many lines the text has
 abbrev pub line_count : List Phase → List (List Cluster) → ℕ

@@ -8,7 +8,7 @@ use Rattle.phase_plan.specs.declared.Phase.{Phase}
 use Rattle.switch_rules.specs.declared.Head.{Head}
 use Rattle.switch_rules.specs.declared.Cluster.{Cluster}
 use Rattle.instance_form.specs.declared.form.Version.{Version}
-use Rattle.instance_form.specs.declared.form.Version.TheVariants.{One, Two, Three, Four}
+use Rattle.instance_form.specs.declared.form.Version.TheVariants.{One, Two, Three, Four, Five}
 use Rattle.instance_form.specs.InstanceText.{first_line, mark, freshness}
 
 -- a value and the bytes after it, as contracts see them
@@ -37,7 +37,7 @@ value_at text (x ∷ xs) bytes =
 -- ---- the first two lines
 
 abbrev pub version_line_at : List ℕ → Option (Version × List ℕ)
-version_line_at bytes = value_at first_line (One ∷ Two ∷ Three ∷ Four ∷ []) bytes
+version_line_at bytes = value_at first_line (One ∷ Two ∷ Three ∷ Four ∷ Five ∷ []) bytes
 
 unfoldable pub count_line_at : List ℕ → Option (ℕ × List ℕ)
 count_line_at bytes = do
@@ -56,6 +56,7 @@ times_end One = 10
 times_end Two = 32
 times_end Three = 32
 times_end Four = 32
+times_end Five = 32
 
 -- what ends the line of a phase with this mark
 abbrev pub mark_end : Bool → List ℕ
@@ -67,6 +68,7 @@ marked_end One skip = 10 ∷ []
 marked_end Two skip = 32 ∷ mark_end skip
 marked_end Three skip = 32 ∷ mark_end skip
 marked_end Four skip = 32 ∷ mark_end skip
+marked_end Five skip = 32 ∷ mark_end skip
 
 -- the mark of a phase, which version 1 does not say; in version 4 each phase is marked
 abbrev pub mark_at : Version → List ℕ → Option (Bool × List ℕ)
@@ -74,6 +76,7 @@ mark_at One bytes = Some (false, bytes)
 mark_at Two bytes = value_at mark_end (true ∷ false ∷ []) bytes
 mark_at Three bytes = value_at mark_end (true ∷ false ∷ []) bytes
 mark_at Four bytes = value_at mark_end (true ∷ []) bytes
+mark_at Five bytes = value_at mark_end (true ∷ false ∷ []) bytes
 
 -- the phase with these times and this mark
 abbrev pub phase_of : List ℕ → Bool → Phase
@@ -125,6 +128,7 @@ load_at One size bytes = Some (size, bytes)
 load_at Two size bytes = Some (size, bytes)
 load_at Three size bytes = field_at (2 ^ 32) 32 bytes
 load_at Four size bytes = field_at (2 ^ 32) 32 bytes
+load_at Five size bytes = field_at (2 ^ 32) 32 bytes
 
 -- when a cluster arrives, and how long it takes
 abbrev pub span_limits : List ℕ

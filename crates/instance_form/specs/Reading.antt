@@ -5,26 +5,27 @@ use Rattle.std.specs.Option.{ok_or}
 pub use Rattle.foundation.specs.Results.{◌>>=◌}
 use Rattle.text_lines.specs.Many.{many_at}
 use Rattle.text_lines.specs.Fields.{literal_at}
+use Rattle.phase_plan.specs.declared.Marks.{Marks}
 use Rattle.phase_plan.specs.declared.Phase.{Phase}
 use Rattle.switch_rules.specs.declared.Head.{Head}
 use Rattle.switch_rules.specs.declared.Cluster.{Cluster}
 use Rattle.instance_form.specs.declared.form.Form.{Form}
 use Rattle.instance_form.specs.declared.form.Version.{Version}
-use Rattle.instance_form.specs.declared.form.Version.TheVariants.{One, Two, Three, Four}
+use Rattle.instance_form.specs.declared.form.Version.TheVariants.{One, Two, Three, Four, Five}
 use Rattle.instance_form.specs.declared.form.FormFault.{FormFault}
 use Rattle.instance_form.specs.declared.form.FormFault.TheVariants.{Line, NoMemory}
-use Rattle.instance_form.specs.Versions.{has_marks, has_loads, says_free}
+use Rattle.instance_form.specs.Versions.{has_marks, has_loads, marks_said}
 use Rattle.instance_form.specs.Lines.{version_line_at, count_line_at, phase_line_at, head_line_at, cluster_line_at}
 
 -- a form without where it lies in memory
 pub record Parts : Type 0 where
-  pub free : Bool
+  pub marks : Marks
   pub plan : List Phase
   pub head : Head
   pub lists : List (List Cluster)
 
 abbrev pub parts_of : Form → Parts
-parts_of form = record { free = form.free_ring; plan = form.phases.items; head = form.head; lists = form.lists.items }
+parts_of form = record { marks = form.marks; plan = form.phases.items; head = form.head; lists = form.lists.items }
 
 -- what a function returned, seen by view, is what reading gives, unless memory ran out
 abbrev pub Fails : {Y : Type 0} → FormFault → Result Y ℕ → Type 0
@@ -49,6 +50,7 @@ can_be_all One plan = true
 can_be_all Two plan = has_marks plan
 can_be_all Three plan = true
 can_be_all Four plan = true
+can_be_all Five plan = true
 
 -- the lines of all phases; the last of them is at fault where they can't be all
 unfoldable pub plan_at : Version → ℕ → ℕ → List ℕ → Result (List Phase × List ℕ) ℕ
@@ -77,6 +79,7 @@ may_end One lists = true
 may_end Two lists = true
 may_end Three lists = has_loads lists
 may_end Four lists = true
+may_end Five lists = true
 
 -- the last line, with this number, after these lists
 unfoldable pub closing_at : Version → List (List Cluster) → ℕ → List ℕ → Result (List ℕ) ℕ
@@ -91,7 +94,7 @@ form_at line bytes = do
   lists ← Ok (lists_at first.0 first.1 0 head.1)
   rest ← closing_at first.0 lists.0 (line + 2 + first.1 + 1 + sum_by (λ list. length list) lists.0) lists.1
   Ok (
-    record { free = says_free first.0; plan = plan.0; head = head.0; lists = lists.0 },
+    record { marks = marks_said first.0; plan = plan.0; head = head.0; lists = lists.0 },
     line + 2 + first.1 + 1 + sum_by (λ list. length list) lists.0 + 1,
     rest,
   )

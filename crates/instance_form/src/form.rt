@@ -4,20 +4,20 @@ ghost use Rattle.std.specs.Prelude.{◌≡◌};
 ghost use Rattle.instance_form.specs.declared.form.FormFault.TheVariants.{NoMemory};
 
 use foundation::items::Items;
-use phase_plan::Phase;
+use phase_plan::{Marks, Phase};
 use std::alloc::{AllocError, AllocFailed};
 use switch_rules::{Cluster, Head};
 
 /// What the lines of an instance's text say: 2 to 4 phases, a head, and the clusters of each phase.
 ///
 /// The numbers are as they are in the text: they may be no plan, no head and no clusters. In a text of version 4 all
-/// phases are marked, and the ring may be free.
+/// phases are marked.
 ///
 /// docs/FORMATS.md, "Instance text".
 #[derive(Drop)]
 pub struct Form {
-    /// Whether the ring may be free, all phases being marked: version 4 alone says so.
-    pub free_ring: bool,
+    /// How many phases are said to be marked: all by version 4, all but one by version 5.
+    pub marks: Marks,
     /// The phases, in order.
     pub phases: Vec<Phase>,
     /// The head.
@@ -27,7 +27,7 @@ pub struct Form {
 }
 
 /// Which form the lines of an instance's text have. A text has the least version that says its phases and clusters, and
-/// whether its ring may be free.
+/// how many are marked.
 ///
 /// docs/FORMATS.md, "Instance text".
 #[derive(Debug, Clone, Copy, PartialEq, Eq)]
@@ -38,8 +38,10 @@ pub enum Version {
     Two,
     /// Some cluster has another load than its size.
     Three,
-    /// All phases are marked, and the ring may be free.
+    /// All phases are marked: the ring is free.
     Four,
+    /// All phases but one are marked.
+    Five,
 }
 
 /// Why bytes are no instance's text.

@@ -27,8 +27,11 @@ pub fn version_line(bytes: &[u8]) -> Option<(Version, &[u8])>
     if let Some(rest) = literal("instance 3\n", bytes) {
         return Some((Version::Three, rest));
     }
-    let rest = literal("instance 4\n", bytes)?;
-    Some((Version::Four, rest))
+    if let Some(rest) = literal("instance 4\n", bytes) {
+        return Some((Version::Four, rest));
+    }
+    let rest = literal("instance 5\n", bytes)?;
+    Some((Version::Five, rest))
 }
 
 /// The number of phases, 2 to 4, and the bytes after its line.
@@ -84,7 +87,7 @@ fn times_end(version: Version) -> u8
 {
     match version {
         Version::One => b'\n',
-        Version::Two | Version::Three | Version::Four => b' ',
+        Version::Two | Version::Three | Version::Four | Version::Five => b' ',
     }
 }
 
@@ -96,13 +99,13 @@ fn mark(version: Version, bytes: &[u8]) -> Option<(bool, &[u8])>
 {
     match version {
         Version::One => return Some((false, bytes)),
-        Version::Two | Version::Three | Version::Four => {}
+        Version::Two | Version::Three | Version::Four | Version::Five => {}
     }
     if let Some(rest) = literal("skip\n", bytes) {
         return Some((true, rest));
     }
     match version {
-        Version::One | Version::Two | Version::Three => {}
+        Version::One | Version::Two | Version::Three | Version::Five => {}
         Version::Four => return None,
     }
     let rest = literal("ring\n", bytes)?;
@@ -170,13 +173,13 @@ pub fn cluster_line(version: Version, phase: u8, bytes: &[u8]) -> Option<(Cluste
     Some((cluster, rest))
 }
 
-/// The load of a cluster of this size, which versions 3 and 4 alone say, and the bytes after it.
+/// The load of a cluster of this size, which versions 3, 4 and 5 alone say, and the bytes after it.
 fn load(version: Version, size: u32, bytes: &[u8]) -> Option<(u32, &[u8])>
     ensures exact { option_map seen result ≡ load_at version size bytes.now }
     ensures shorter { IfSome result (λ x. length x.1.now ≤ length bytes.now) }
 {
     match version {
         Version::One | Version::Two => Some((size, bytes)),
-        Version::Three | Version::Four => field_u32(b' ', bytes),
+        Version::Three | Version::Four | Version::Five => field_u32(b' ', bytes),
     }
 }

@@ -1,9 +1,9 @@
 //! Reading an instance's text.
 
-ghost use Rattle.std.specs.Prelude.{◌≡◌, ◌+◌, ◌^◌, ◌<◌, ◌≤◌, ℕ, List, ◌++◌, length, codes, Bool, IfOk, IfErr, MatchResult};
-ghost use Rattle.phase_plan.specs.declared.Phase.{Phase};
+ghost use Rattle.std.specs.Prelude.{◌≡◌, ◌+◌, ◌^◌, ◌<◌, ◌≤◌, ℕ, List, ◌++◌, length, codes, IfOk, IfErr, MatchResult};
+ghost use Rattle.phase_plan.specs.declared.{Marks.Marks, Phase.Phase};
 ghost use Rattle.switch_rules.specs.{declared.Cluster.Cluster, declared.Head.Head};
-ghost use Rattle.instance_form.specs.{Answers.HasParts, Answers.IsOutOfMemory, Answers.IsWritableForm, Answers.text_of, Faults.BeginsText, Faults.BeginsFront, Faults.IsFaultOf, InstanceText.HasText, InstanceText.IsFreeWhere};
+ghost use Rattle.instance_form.specs.{Answers.HasParts, Answers.IsOutOfMemory, Answers.IsWritableForm, Answers.text_of, Faults.BeginsText, Faults.BeginsFront, Faults.IsFaultOf, InstanceText.HasText, InstanceText.IsMarkedWhere};
 ghost use Rattle.instance_form.specs.{InstanceText.whole_text, InstanceText.line_count, Lines.seen, Lines.head_line_at, Reading.Gives, Reading.parts_of, Reading.opening_at, Reading.plan_at, Reading.closing_at, Reading.form_at};
 ghost use Rattle.instance_form.specs.{Reading.can_be_all, Reading.may_end};
 ghost use Rattle.std.specs.Option.{ok_or};
@@ -11,7 +11,7 @@ ghost use Rattle.std.specs.Option.{ok_or};
 use crate::form::{Form, FormFault, Version};
 use crate::lines::{count_line, head_line, version_line};
 use crate::lists::{lists, phases};
-use crate::versions::{has_loads, has_marks, says_free};
+use crate::versions::{has_loads, has_marks, marks_said};
 use foundation::items::Items;
 use phase_plan::Phase;
 use std::alloc::Global;
@@ -59,7 +59,7 @@ fn can_be_all(version: Version, phases: &[Phase]) -> bool
     ensures { result ≡ can_be_all version phases.now }
 {
     match version {
-        Version::One | Version::Three | Version::Four => true,
+        Version::One | Version::Three | Version::Four | Version::Five => true,
         Version::Two => has_marks(phases),
     }
 }
@@ -95,7 +95,7 @@ fn may_end(version: Version, lists: &[Items<Cluster>]) -> bool
     ensures { result ≡ may_end version lists.now }
 {
     match version {
-        Version::One | Version::Two | Version::Four => true,
+        Version::One | Version::Two | Version::Four | Version::Five => true,
         Version::Three => has_loads(lists),
     }
 }
@@ -114,7 +114,7 @@ fn form_front(alloc: Global, line: u32, bytes: &[u8]) -> Result<(Form, u32, &[u8
     let line = line + 1 + clusters;
     let rest = closing(version, &lists, line, rest)?;
     let form = Form {
-        free_ring: says_free(version),
+        marks: marks_said(version),
         phases,
         head,
         lists,
@@ -132,9 +132,9 @@ pub fn read_front(alloc: Global, line: u32, bytes: &[u8]) -> Result<(Form, u32, 
     requires { line + length bytes.now ≤ 2 ^ 32 }
     ensures ok { IfOk result (λ x. IsWritableForm x.0 × (bytes.now ≡ text_of x.0 ++ x.2.now)) }
     ensures next { IfOk result (λ x. x.1 ≡ line + line_count x.0.phases.items x.0.lists.items) }
-    ensures only { (free : Bool) (plan : List Phase) (h : Head) (lists : List (List Cluster)) (rest : List ℕ)
-        → HasText plan h lists → IsFreeWhere free plan → bytes.now ≡ whole_text free plan h lists ++ rest
-        → MatchResult result (λ x. HasParts x.0 free plan h lists × (x.2.now ≡ rest)) IsOutOfMemory }
+    ensures only { (marks : Marks) (plan : List Phase) (h : Head) (lists : List (List Cluster)) (rest : List ℕ)
+        → HasText plan h lists → IsMarkedWhere marks plan → bytes.now ≡ whole_text marks plan h lists ++ rest
+        → MatchResult result (λ x. HasParts x.0 marks plan h lists × (x.2.now ≡ rest)) IsOutOfMemory }
     ensures first { IfErr result (IsFaultOf BeginsFront line bytes.now) }
 {
     form_front(alloc, line, bytes)
@@ -148,9 +148,9 @@ pub fn read_front(alloc: Global, line: u32, bytes: &[u8]) -> Result<(Form, u32, 
 pub fn read_form(alloc: Global, bytes: &[u8]) -> Result<Form, FormFault>
     requires { length bytes.now < 2 ^ 32 }
     ensures ok { IfOk result (λ form. IsWritableForm form × (bytes.now ≡ text_of form)) }
-    ensures only { (free : Bool) (plan : List Phase) (h : Head) (lists : List (List Cluster))
-        → HasText plan h lists → IsFreeWhere free plan → bytes.now ≡ whole_text free plan h lists
-        → MatchResult result (λ form. HasParts form free plan h lists) IsOutOfMemory }
+    ensures only { (marks : Marks) (plan : List Phase) (h : Head) (lists : List (List Cluster))
+        → HasText plan h lists → IsMarkedWhere marks plan → bytes.now ≡ whole_text marks plan h lists
+        → MatchResult result (λ form. HasParts form marks plan h lists) IsOutOfMemory }
     ensures first { IfErr result (IsFaultOf BeginsText 1 bytes.now) }
 {
     let (form, line, rest) = read_front(alloc, 1, bytes)?;
@@ -165,9 +165,9 @@ pub fn read_form(alloc: Global, bytes: &[u8]) -> Result<Form, FormFault>
 ///
 /// docs/FORMATS.md, "Instance text".
 pub fn law_of_instance_texts()
-    ensures { (free may : Bool) (plan others : List Phase) (h g : Head)
+    ensures { (marks theirs : Marks) (plan others : List Phase) (h g : Head)
         → (lists queues : List (List Cluster)) (x y : List ℕ)
-        → HasText plan h lists → IsFreeWhere free plan → HasText others g queues → IsFreeWhere may others
-        → whole_text free plan h lists ++ x ≡ whole_text may others g queues ++ y
-        → (free ≡ may) × (plan ≡ others) × (h ≡ g) × (lists ≡ queues) × (x ≡ y) }
+        → HasText plan h lists → IsMarkedWhere marks plan → HasText others g queues → IsMarkedWhere theirs others
+        → whole_text marks plan h lists ++ x ≡ whole_text theirs others g queues ++ y
+        → (marks ≡ theirs) × (plan ≡ others) × (h ≡ g) × (lists ≡ queues) × (x ≡ y) }
 {}

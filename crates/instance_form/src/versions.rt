@@ -1,35 +1,34 @@
 //! Which version of the text says given phases and clusters.
 
 ghost use Rattle.std.specs.Prelude.{◌≡◌};
-ghost use Rattle.instance_form.specs.Versions.{has_marks, has_load, has_loads, says_free, version_of};
+ghost use Rattle.instance_form.specs.Versions.{has_marks, has_load, has_loads, marks_said, version_of};
 
 use crate::form::Version;
 use foundation::items::Items;
-use phase_plan::Phase;
+use phase_plan::{Marks, Phase};
 use switch_rules::Cluster;
 
-/// The least version that says these phases and clusters, and whether the ring may be free.
-pub fn version_of(free_ring: bool, phases: &[Phase], lists: &[Items<Cluster>]) -> Version
-    ensures { result ≡ version_of free_ring phases.now lists.now }
+/// The least version that says these phases and clusters, of which so many are said to be marked.
+pub fn version_of(marks: Marks, phases: &[Phase], lists: &[Items<Cluster>]) -> Version
+    ensures { result ≡ version_of marks phases.now lists.now }
 {
-    if free_ring {
-        Version::Four
-    } else if has_loads(lists) {
-        Version::Three
-    } else if has_marks(phases) {
-        Version::Two
-    } else {
-        Version::One
+    match marks {
+        Marks::All => Version::Four,
+        Marks::AllButOne => Version::Five,
+        Marks::Fewer if has_loads(lists) => Version::Three,
+        Marks::Fewer if has_marks(phases) => Version::Two,
+        Marks::Fewer => Version::One,
     }
 }
 
-/// Whether the version says that the ring may be free.
-pub fn says_free(version: Version) -> bool
-    ensures { result ≡ says_free version }
+/// What the version says of the marks.
+pub fn marks_said(version: Version) -> Marks
+    ensures { result ≡ marks_said version }
 {
     match version {
-        Version::One | Version::Two | Version::Three => false,
-        Version::Four => true,
+        Version::One | Version::Two | Version::Three => Marks::Fewer,
+        Version::Four => Marks::All,
+        Version::Five => Marks::AllButOne,
     }
 }
 

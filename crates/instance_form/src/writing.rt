@@ -8,26 +8,26 @@ ghost use Rattle.instance_form.specs.Lines.{marked_end};
 use crate::form::Version;
 use crate::versions::version_of;
 use foundation::items::Items;
-use phase_plan::Phase;
+use phase_plan::{Marks, Phase};
 use std::alloc::{AllocError, Global};
 use switch_rules::{Cluster, Head};
 use text_lines::{Line, push_line, put_numbers};
 
-/// The text of these phases, this head and the clusters of each phase, whatever their numbers, which says whether the
-/// ring may be free. `Err`: out of memory.
+/// The text of these phases, this head and the clusters of each phase, whatever their numbers, of which so many are
+/// said to be marked. `Err`: out of memory.
 ///
 /// docs/FORMATS.md, "Instance text".
 #[tactic(auto, unfolding(crate::specs::InstanceText::form_text, crate::specs::InstanceText::whole_text))]
 pub fn write_form(
     alloc: Global,
-    free_ring: bool,
+    marks: Marks,
     phases: &[Phase],
     head: &Head,
     lists: &[Items<Cluster>],
 ) -> Result<Vec<u8>, AllocError>
-    ensures { IfOk result (λ text. text.items ≡ whole_text free_ring phases.now head.now lists.now) }
+    ensures { IfOk result (λ text. text.items ≡ whole_text marks phases.now head.now lists.now) }
 {
-    let version = version_of(free_ring, phases, lists);
+    let version = version_of(marks, phases, lists);
     let mut text = Vec::from_slice(alloc, first_line(version))?;
     push_line(&mut text, b"phases", &[phases.len() as u64])?;
     write_phases(&mut text, version, phases)?;
@@ -46,6 +46,7 @@ fn first_line(version: Version) -> &'static [u8]
         Version::Two => b"instance 2\n",
         Version::Three => b"instance 3\n",
         Version::Four => b"instance 4\n",
+        Version::Five => b"instance 5\n",
     }
 }
 
@@ -85,7 +86,7 @@ fn phase_end(version: Version, skip: bool) -> &'static [u8]
 {
     match version {
         Version::One => b"\n",
-        Version::Two | Version::Three | Version::Four => {
+        Version::Two | Version::Three | Version::Four | Version::Five => {
             if skip { b" skip\n" } else { b" ring\n" }
         }
     }
@@ -156,7 +157,7 @@ fn write_cluster(
     let len = u64::from(cluster.len);
     match version {
         Version::One | Version::Two => push_line(text, b"cluster", &[phase, size, arr, len]),
-        Version::Three | Version::Four => push_line(
+        Version::Three | Version::Four | Version::Five => push_line(
             text,
             b"cluster",
             &[phase, size, load, arr, len],

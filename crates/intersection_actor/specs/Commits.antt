@@ -58,8 +58,7 @@ abbrev pub is_recalled : Net → ℕ → Sensed → ℕ → ℕ → Bool
 is_recalled net node sensed recall k =
     list_any (λ l. nat_le recall (sense_of sensed l).stood) (phase_links_at net node k)
 
--- the phases of a node as it plans them in this round: where the network has `recall`, those that it recalls have no mark, and in a free
--- ring with such a phase none has
+-- the phases of a node as it plans them in this round: where the network has `recall`, those that it recalls have no mark
 abbrev pub plan_by : Net → ℕ → Sensed → Option ℕ → List Phase
 plan_by net node sensed None = plan_at net node
 plan_by net node sensed (Some recall) = recalled (plan_at net node) (is_recalled net node sensed recall)

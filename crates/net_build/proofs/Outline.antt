@@ -4,7 +4,7 @@ use Rattle.std.specs.Bool.{⊤}
 use Rattle.std.proofs.lemmas.List.{length-map, get_or-map, get_or_default}
 use Rattle.std.proofs.lemmas.List.Elements.{All-map, All-weaker}
 use Rattle.std.proofs.lemmas.Option.{same_Some}
-use Rattle.phase_plan.specs.Phases.{IsRing}
+use Rattle.phase_plan.specs.Phases.{IsOwnRing}
 use Rattle.foundation.specs.Options.{each}
 use Rattle.foundation.proofs.OptionLaws.{bind-some}
 use Rattle.foundation.proofs.EachLaws.{each-length, each-at, each-All}
@@ -22,7 +22,7 @@ use Rattle.net_parts.specs.Numbers.{Net, no_link, AreDistinct, number_of, number
 use Rattle.net_parts.specs.Outline.{IsOutline, IsLink, AreTurns, ArePhaseLinks, IsYieldSat, phases_at, also_at, plan_at, link_at, yields_at}
 use Rattle.net_parts.proofs.OutlineLaws.{counts-most}
 use Rattle.net_parts.proofs.DraftParts.{IsNumbered, numbered-parts, number_of-within, number_if-within, number_of-own}
-use Rattle.net_build.proofs.Plans.{IsRing-from_bounds, count-not_one}
+use Rattle.net_build.proofs.Plans.{IsOwnRing-from_bounds, count-not_one}
 
 anything : {X : Type 0} (xs : List X) → All (λ _. ⊤) xs
 anything xs k d h = tt
@@ -177,7 +177,7 @@ module _ (d : Draft) (net : Net) (bounds : IsBounded d) (nodes_differ : AreDisti
     link_names = rw is.names (All-map IsName (λ l. l.name) d.links (All-weaker IsBoundedLink (λ l. IsName l.name) (λ l ok. ok.own.name) d.links bounds.links));
     links_differ = rw is.names links_differ;
     plan_count = rw (is.plans, length-map) (sym node_total);
-    plans = rw is.plans (All-map IsRing plan_of d.nodes (All-weaker IsBoundedNode (λ n. IsRing (plan_of n)) (λ n ok. IsRing-from_bounds n.phases ok.own.count.0 ok.own.count.1 (count-not_one n.free_ring _ ok.own.ring) ok.phases) d.nodes bounds.nodes));
+    plans = rw is.plans (All-map IsOwnRing plan_of d.nodes (All-weaker IsBoundedNode (λ n. IsOwnRing (plan_of n)) (λ n ok. IsOwnRing-from_bounds n.phases ok.own.count.0 ok.own.count.1 (count-not_one n.free_ring _ ok.own.ring) ok.phases) d.nodes bounds.nodes));
     phases_count = each-length (phases_of (link_names d)) d.nodes net.phase_links is.phase_links ∙ sym node_total;
     phase_counts = outline-phases;
     phase_links = rw is.names (each-All (phases_of (link_names d)) IsBoundedNode (All (ArePhaseLinks (length (link_names d)))) (phases-bounds (link_names d)) d.nodes net.phase_links bounds.nodes is.phase_links);

@@ -1,9 +1,9 @@
--- Phases within their bounds are those of a ring.
+-- Phases within their bounds are those of an intersection's ring.
 use Rattle.std.proofs.Common.{◌≡◌, ◌≢◌, ℕ, ◌≤◌, Bool, cond, sym, ◌∙◌, inl, inr, List, [], ◌∷◌, length, map, count_by, All, refl, arith}
 use Rattle.std.proofs.lemmas.List.{length-map}
 use Rattle.std.proofs.lemmas.List.Sums.{sum_by-cons}
 use Rattle.std.proofs.lemmas.List.Elements.{All-map}
-use Rattle.phase_plan.specs.Phases.{IsPhase, IsRing, is_unmarked}
+use Rattle.phase_plan.specs.Phases.{IsOwnRing, IsPhase, is_unmarked}
 use Rattle.net_parts.specs.declared.drafts.DraftPhase.{DraftPhase}
 use Rattle.net_parts.specs.Bounds.{IsBoundedPhase, IsUnmarkedCount}
 
@@ -17,11 +17,13 @@ unmarked-same (p ∷ phases) = omega (
 )
 
 -- the phases of a node of a draft
-pub IsRing-from_bounds : (phases : List DraftPhase) → 2 ≤ length phases → length phases ≤ 4 → count_by (λ p. is_unmarked p.phase) phases ≢ 1 → All IsBoundedPhase phases → IsRing (map (λ p. p.phase) phases)
-IsRing-from_bounds phases some few ring bounds = record {
-  count = (simp length-map some, simp length-map few);
-  ring = λ one. ring (sym (unmarked-same phases) ∙ one);
-  phases = All-map IsPhase (λ p. p.phase) phases (λ k d h. (bounds k d h).phase);
+pub IsOwnRing-from_bounds : (phases : List DraftPhase) → 2 ≤ length phases → length phases ≤ 4 → count_by (λ p. is_unmarked p.phase) phases ≢ 1 → All IsBoundedPhase phases → IsOwnRing (map (λ p. p.phase) phases)
+IsOwnRing-from_bounds phases some few ring bounds = record {
+  ring = record {
+    count = (simp length-map some, simp length-map few);
+    phases = All-map IsPhase (λ p. p.phase) phases (λ k d h. (bounds k d h).phase);
+  };
+  marks = λ one. ring (sym (unmarked-same phases) ∙ one);
 }
 
 -- a count that a ring may have is not one

@@ -4,7 +4,7 @@ use Rattle.std.proofs.lemmas.List.{length-map}
 use Rattle.std.proofs.lemmas.List.FromFn.{length-map-range_with_len}
 use Rattle.std.proofs.lemmas.List.Elements.{All-map}
 use Rattle.foundation.specs.Options.{each}
-use Rattle.phase_plan.specs.Phases.{IsRing, is_free, is_unmarked, no_phase}
+use Rattle.phase_plan.specs.Phases.{IsOwnRing, is_free, is_unmarked, no_phase}
 use Rattle.net_parts.specs.declared.drafts.Draft.{Draft}
 use Rattle.net_parts.specs.declared.drafts.DraftNode.{DraftNode}
 use Rattle.net_parts.specs.declared.drafts.DraftPhase.{DraftPhase}
@@ -200,7 +200,7 @@ module _ (net : Net) (ok : IsOutline net) (third : Bool) (rings : (third ≡ tru
       }
 
   -- it is within the bounds of drafts
-  plan-ok : (n : ℕ) → n < length net.node_names → IsRing (plan_at net n)
+  plan-ok : (n : ℕ) → n < length net.node_names → IsOwnRing (plan_at net n)
   plan-ok n h = let inside : n < length net.plans = omega (arith, ok.plan_count) in ok.plans n [] inside
 
   -- its ring is free in version 3 alone
@@ -213,7 +213,7 @@ module _ (net : Net) (ok : IsOutline net) (third : Bool) (rings : (third ≡ tru
   phase-bounded n k h below =
       let inside : k < length (phases_at net n) = omega (arith, ok.phase_counts n h) in
       record {
-        phase = (plan-ok n h).phases k no_phase below;
+        phase = (plan-ok n h).ring.phases k no_phase below;
         links = rw length-map (lists-numbers n h k [] inside).count;
         also = let named : k < length (also_at net n) = omega (arith, ok.also_counts n h) in rw length-map (also-numbers n h k [] named).count;
       }
@@ -232,8 +232,8 @@ module _ (net : Net) (ok : IsOutline net) (third : Bool) (rings : (third ≡ tru
       record {
         own = record {
           name = rw (node-name n) (ok.node_names n [] h);
-          count = rw (phases-count n) plan.count;
-          ring = rw (node-free n, ← count_by-map is_unmarked (λ (p : DraftPhase). p.phase) (node_by_names net third n).phases, plan-own n) (count-of_ring third (count_by is_unmarked (plan_at net n)) plan.ring (plan-free n h));
+          count = rw (phases-count n) plan.ring.count;
+          ring = rw (node-free n, ← count_by-map is_unmarked (λ (p : DraftPhase). p.phase) (node_by_names net third n).phases, plan-own n) (count-of_ring third (count_by is_unmarked (plan_at net n)) plan.marks (plan-free n h));
         };
         phases = phases-bounded n h;
       }

@@ -14,7 +14,7 @@ pub outline-few : (net : Net) → IsOutline net → All (λ phases. length phase
 outline-few net ok k d h =
     let inside : k < length net.node_names = omega (arith, ok.phases_count) in
     let planned : k < length net.plans = omega (arith, ok.plan_count) in
-    rw (get_or_default net.phase_links k d [] h) (omega (arith, ok.phase_counts k inside, (ok.plans k [] planned).count.1))
+    rw (get_or_default net.phase_links k d [] h) (omega (arith, ok.phase_counts k inside, (ok.plans k [] planned).ring.count.1))
 
 module _ (run : Run) (is : IsRun run) where
   -- the rounds of a run begin, and are over, within a day

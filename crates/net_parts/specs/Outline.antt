@@ -3,7 +3,7 @@ use Rattle.std.specs.Prelude.{◌≡◌, ℕ, ◌*◌, ◌<◌, ◌≤◌, ◌==
 use Rattle.std.specs.Option.{option_map, option_map_or}
 use Rattle.net_parts.specs.Limits.{most_conflicts, most_links, most_nodes, most_sat, most_travel, small_seconds}
 use Rattle.phase_plan.specs.declared.Phase.{Phase}
-use Rattle.phase_plan.specs.Phases.{IsRing}
+use Rattle.phase_plan.specs.Phases.{IsOwnRing}
 use Rattle.net_parts.specs.declared.roads.Link.{Link}
 use Rattle.net_parts.specs.declared.roads.Turn.{Turn}
 use Rattle.net_parts.specs.Bounds.{IsName, IsRun, HasWalkBounds}
@@ -111,7 +111,7 @@ pub record IsOutline (net : Net) : Type 0 where
   pub link_names : All IsName net.link_names
   pub links_differ : AreDistinct net.link_names
   pub plan_count : length net.plans ≡ length net.node_names
-  pub plans : All IsRing net.plans
+  pub plans : All IsOwnRing net.plans
   pub phases_count : length net.phase_links ≡ length net.node_names
   pub phase_counts : (n : ℕ) → n < length net.node_names → length (phases_at net n) ≡ length (plan_at net n)
   pub phase_links : All (λ phases. All (ArePhaseLinks (length net.link_names)) phases) net.phase_links

@@ -4,7 +4,7 @@ use Rattle.std.proofs.lemmas.Bool.{cases_lt}
 use Rattle.std.proofs.lemmas.Bool.Decides.{eqb_tells}
 use Rattle.std.proofs.lemmas.List.{get_or_past}
 use Rattle.std.proofs.lemmas.List.Elements.{All-get_or}
-use Rattle.phase_plan.specs.Phases.{phase_at, no_phase, IsRing, IsPhase}
+use Rattle.phase_plan.specs.Phases.{phase_at, no_phase, IsOwnRing, IsRing, IsPhase}
 use Rattle.phase_plan.specs.declared.Phase.{Phase}
 use Rattle.net_parts.specs.declared.roads.Link.{Link}
 use Rattle.net_parts.specs.declared.roads.Turn.{Turn}
@@ -30,9 +30,9 @@ loss-of-plan plan k is = elim (cases_lt k (length plan)) [
   | inr past ↦ (let e = ap (λ (p : Phase). p.loss) (get_or_past plan k no_phase past) in omega (arith, e))
 ]
 
-loss-most : (plans : List (List Phase)) (n k : ℕ) → All IsRing plans → (phase_at (get_or plans n []) k).loss ≤ 10
+loss-most : (plans : List (List Phase)) (n k : ℕ) → All IsOwnRing plans → (phase_at (get_or plans n []) k).loss ≤ 10
 loss-most plans n k all = elim (cases_lt n (length plans)) [
-  | inl there ↦ loss-of-plan (get_or plans n []) k (All-get_or IsRing plans n [] there all)
+  | inl there ↦ loss-of-plan (get_or plans n []) k (All-get_or IsOwnRing plans n [] there all).ring
   | inr past ↦ (let e = ap (λ (plan : List Phase). (phase_at plan k).loss) (get_or_past plans n [] past) in omega (arith, e))
 ]
 

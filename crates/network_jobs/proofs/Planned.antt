@@ -7,10 +7,11 @@ use Rattle.std.proofs.lemmas.List.Sums.{sum-map}
 use Rattle.arrivals.specs.Amounts.{Amounts, arriving_of}
 use Rattle.instance_form.specs.InstanceText.{instance_text}
 use Rattle.instance_form.proofs.FormLaws.{text_once}
+use Rattle.instance_form.proofs.VersionLaws.{own-marks}
 use Rattle.instance_form.proofs.LengthLaws.{text-le}
 use Rattle.intersection_actor.specs.declared.records.PlanRecord.{PlanRecord}
 use Rattle.net_parts.specs.Numbers.{Net, number_of}
-use Rattle.phase_plan.specs.Phases.{is_free}
+use Rattle.phase_plan.specs.Phases.{marks_of}
 use Rattle.runs.specs.declared.records.RunRecord.{RunRecord}
 use Rattle.scenario_gen.specs.Grids.{IsGrid}
 use Rattle.schedule_meaning.specs.Best.{IsLeast}
@@ -45,14 +46,14 @@ agree p NoPlan NoPlan one other = tt
 -- the text of an instance is within the limit, and is read as this instance alone
 reads : (p : Problem) (bytes : List ℕ) → IsInstance p → bytes ≡ instance_text p.plan p.head p.lists → Reads InstanceText bytes p
 reads p bytes h is =
-    let text = text-le (is_free p.plan) p.plan p.head p.lists (has-text p h) in
+    let text = text-le (marks_of p.plan) p.plan p.head p.lists (has-text p h) in
     let few : length bytes ≤ most_bytes = omega (arith, ap length is, text, sum-map length p.lists, h.few) in
     (few, (h, is))
 
 only : (p : Problem) (bytes : List ℕ) → IsInstance p → bytes ≡ instance_text p.plan p.head p.lists → (other : Problem) → Reads InstanceText bytes other → other ≡ p
 only p bytes h is other read =
     let texts : instance_text other.plan other.head other.lists ++ [] ≡ instance_text p.plan p.head p.lists ++ [] = ap (λ (text : List ℕ). text ++ []) (sym read.1.1 ∙ is) in
-    let same = text_once (is_free other.plan) (is_free p.plan) other.plan p.plan other.head p.head other.lists p.lists [] [] (has-text other read.1.0) (λ free. free) (has-text p h) (λ free. free) texts in
+    let same = text_once (marks_of other.plan) (marks_of p.plan) other.plan p.plan other.head p.head other.lists p.lists [] [] (has-text other read.1.0) (own-marks other.plan) (has-text p h) (own-marks p.plan) texts in
     λ i. record { plan = same.1 i; head = same.2 i; lists = same.3 i }
 
 -- the text of the instance of a plan of a run

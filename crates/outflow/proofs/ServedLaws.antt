@@ -7,7 +7,7 @@ use Rattle.std.proofs.lemmas.List.Sums.{sum_by-cons}
 use Rattle.std.proofs.lemmas.Option.{get_or_from_slice_get, slice_get-get_or, slice_get_past}
 use Rattle.std.proofs.lemmas.Bool.{cases_lt, cond_both, cond_below, cond_above, and_parts, leb-true, leb-false}
 use Rattle.std.proofs.lemmas.Bool.Decides.{eqb_tells}
-use Rattle.phase_plan.specs.Phases.{IsRing, phase_at}
+use Rattle.phase_plan.specs.Phases.{IsOwnRing, phase_at}
 use Rattle.phase_plan.specs.declared.Phase.{Phase}
 use Rattle.switch_rules.specs.Orders.{one_less}
 use Rattle.switch_rules.specs.Sequences.{AreNextServings, IsNextServing, next_cluster}
@@ -375,7 +375,7 @@ filling-all net node exit now lists ks ss taken amounts i of served h all net_is
 
 -- a network's node has at most four phases
 pub phases-few : (net : Net) (node now : ℕ) (lists : List (List Platoon)) → IsNetwork net → node < length net.node_names → AreOfNode net node now lists → length lists ≤ 4
-phases-few net node now lists h there of = omega (arith, of.count, (All-get_or IsRing net.plans node [] (omega (arith, h.outline.plan_count)) h.outline.plans).count)
+phases-few net node now lists h there of = omega (arith, of.count, (All-get_or IsOwnRing net.plans node [] (omega (arith, h.outline.plan_count)) h.outline.plans).ring.count)
 
 abbrev pub no_served : Served
 no_served = record { green = 0; start = 0; finish = 0; cost = 0; kept = false }

@@ -1,7 +1,8 @@
--- The switch times of a small free ring, worked out by hand and computed here from the definitions.
-use Rattle.std.proofs.Common.{◌≡◌, ℕ, true, List, [], ◌∷◌, refl}
+-- The switch times of a small free ring, and of one of which one phase is recalled, worked out by hand and computed here from the definitions.
+use Rattle.std.proofs.Common.{◌≡◌, ℕ, true, false, List, [], ◌∷◌, refl}
 use Rattle.phase_plan.specs.declared.Phase.{Phase}
-use Rattle.phase_plan.specs.Phases.{is_free, next_phase, passed_numbers, switch_time}
+use Rattle.phase_plan.specs.declared.Marks.TheVariants as marks
+use Rattle.phase_plan.specs.Phases.{is_free, marks_of, next_phase, passed_numbers, switch_time}
 
 -- a marked phase of these times
 abbrev phase : ℕ → ℕ → ℕ → Phase
@@ -34,3 +35,29 @@ through = refl
 
 turns : next_phase three 0 ∷ next_phase three 1 ∷ next_phase three 2 ∷ [] ≡ 1 ∷ 2 ∷ 0 ∷ []
 turns = refl
+
+-- the same phases, the second without its mark
+
+abbrev but_one : List Phase
+but_one = phase 5 3 2 ∷ record (phase 6 4 2) { skip = false } ∷ phase 7 3 4 ∷ []
+
+all_but_one : marks_of but_one ≡ marks.AllButOne
+all_but_one = refl
+
+-- past it through its green of 12 seconds, from a phase to itself too; to it, and where it is not between, what the phase takes itself
+
+past : switch_time but_one 0 2 ∷ switch_time but_one 0 0 ∷ switch_time but_one 2 2 ∷ [] ≡ 17 ∷ 17 ∷ 19 ∷ []
+past = refl
+
+beside : switch_time but_one 0 1 ∷ switch_time but_one 1 0 ∷ switch_time but_one 2 0 ∷ [] ≡ 5 ∷ 6 ∷ 7 ∷ []
+beside = refl
+
+-- from it to itself: through all others
+
+round : switch_time but_one 1 1 ≡ 30
+round = refl
+
+-- with nothing called, it turns to it, and from it to the one after it
+
+turns_past : next_phase but_one 0 ∷ next_phase but_one 1 ∷ next_phase but_one 2 ∷ [] ≡ 1 ∷ 2 ∷ 1 ∷ []
+turns_past = refl

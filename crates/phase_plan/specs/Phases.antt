@@ -4,6 +4,8 @@ use Rattle.std.specs.List.{range_with_len}
 use Rattle.foundation.specs.Firsts.{IsFirstAt, IsFirstOfRanks}
 use Rattle.phase_plan.specs.declared.Phase.{Phase}
 use Rattle.phase_plan.specs.declared.Field.{Field}
+use Rattle.phase_plan.specs.declared.Marks.{Marks}
+use Rattle.phase_plan.specs.declared.Marks.TheVariants as marks
 use Rattle.phase_plan.specs.declared.PlanFault.{PlanFault}
 use Rattle.phase_plan.specs.declared.PlanFault.TheVariants.{Count, Bound, Skips}
 use Rattle.phase_plan.specs.declared.Field.TheVariants.{Least, Greatest, Yellow, Clear, Loss, Wait}
@@ -30,8 +32,8 @@ pub record IsPhase (p : Phase) : Type 0 where
 abbrev pub is_unmarked : Phase → Bool
 is_unmarked p = not p.skip
 
--- two to four phases, each in bounds
-pub record HasPhases (plan : List Phase) : Type 0 where
+-- the phases of a ring: two to four, each in bounds, with any marks
+pub record IsRing (plan : List Phase) : Type 0 where
   pub count : (2 ≤ length plan) × (length plan ≤ 4)
   pub phases : All IsPhase plan
 
@@ -41,15 +43,25 @@ pub record IsPlan (plan : List Phase) : Type 0 where
   pub phases : All IsPhase plan
   pub ring : 2 ≤ count_by is_unmarked plan
 
--- the phases of a ring: two to four, each in bounds, and not exactly one of them unmarked; where none is, the ring is free
-pub record IsRing (plan : List Phase) : Type 0 where
-  pub count : (2 ≤ length plan) × (length plan ≤ 4)
-  pub phases : All IsPhase plan
-  pub ring : count_by is_unmarked plan ≢ 1
+-- the phases of an intersection's own ring: not exactly one of them is unmarked; where none is, the ring is free
+pub record IsOwnRing (plan : List Phase) : Type 0 where
+  pub ring : IsRing plan
+  pub marks : count_by is_unmarked plan ≢ 1
+
+-- the phases of a ring of which all but one are marked, as a round may have them that recalls one phase of a free ring
+pub record IsRingOfOne (plan : List Phase) : Type 0 where
+  pub ring : IsRing plan
+  pub marks : count_by is_unmarked plan ≡ 1
 
 -- whether the ring of these phases is free: all are marked, and any may follow any other
 abbrev pub is_free : List Phase → Bool
 is_free plan = count_by is_unmarked plan == 0
+
+-- how many of these phases are marked
+abbrev pub marks_of : List Phase → Marks
+marks_of plan =
+    if count_by is_unmarked plan == 0 then marks.All
+    else (if count_by is_unmarked plan == 1 then marks.AllButOne else marks.Fewer)
 
 -- what stands where a plan has no phase
 abbrev pub no_phase : Phase
@@ -90,10 +102,10 @@ first_up plan stops s = slice_index_or (stops_between plan stops s s) 0 (one_up 
 abbrev pub next_phase : List Phase → ℕ → ℕ
 next_phase plan s = first_up plan (is_unmarked_at plan) s
 
--- whether the ring, on its way from a green of phase s to one of phase j, is green for all others: it is free, and s is j, since no
--- phase follows itself
+-- whether the ring, on its way from a green of phase s to one of phase j, is green for all others: s is j, and it stops at none of
+-- them, since no phase follows itself
 abbrev pub passes_all : List Phase → ℕ → ℕ → Bool
-passes_all plan s j = is_free plan && (s == j)
+passes_all plan s j = (s == j) && (length (stops_between plan (is_unmarked_at plan) s s) == 0)
 
 -- whether the ring, on its way from a green of phase s to one of phase j, is green for a phase between: it is unmarked, or the ring
 -- passes all others
@@ -161,8 +173,20 @@ IsPlanFault plan (Bound k field) =
     (2 ≤ length plan) × (length plan ≤ 4) × IsFirstAt IsPhase (λ p. IsFirstFault p field) plan k
 IsPlanFault plan Skips = (2 ≤ length plan) × (length plan ≤ 4) × All IsPhase plan × (count_by is_unmarked plan < 2)
 
--- why these phases are no ring: as for a plan, but that none may be unmarked
+-- why these phases are no ring of an intersection: as for a plan, but that none may be unmarked
+abbrev pub IsOwnRingFault : List Phase → PlanFault → Type 0
+IsOwnRingFault plan (Count n) = IsPlanFault plan (Count n)
+IsOwnRingFault plan (Bound k field) = IsPlanFault plan (Bound k field)
+IsOwnRingFault plan Skips = IsRing plan × (count_by is_unmarked plan ≡ 1)
+
+-- why these phases are no ring of which all but one are marked: as for a plan, but that exactly one has to be unmarked
+abbrev pub IsRingOfOneFault : List Phase → PlanFault → Type 0
+IsRingOfOneFault plan (Count n) = IsPlanFault plan (Count n)
+IsRingOfOneFault plan (Bound k field) = IsPlanFault plan (Bound k field)
+IsRingOfOneFault plan Skips = IsRing plan × (count_by is_unmarked plan ≢ 1)
+
+-- why these phases are no ring at all: as for a plan, but that any may be marked
 abbrev pub IsRingFault : List Phase → PlanFault → Type 0
 IsRingFault plan (Count n) = IsPlanFault plan (Count n)
 IsRingFault plan (Bound k field) = IsPlanFault plan (Bound k field)
-IsRingFault plan Skips = (2 ≤ length plan) × (length plan ≤ 4) × All IsPhase plan × (count_by is_unmarked plan ≡ 1)
+IsRingFault plan Skips = ⊥

@@ -6,7 +6,7 @@ mod fault_codes;
 ghost use Rattle.std.specs.Prelude.{◌≡◌, ◌≢◌, ◌+◌, ◌-◌, ◌*◌, ◌^◌, ◌<◌, ◌≤◌, ◌||◌, length, map, filter, count_by, sum_by, slice_get, if◌then◌else◌, IfErr, IfNone, IfSome, OnErr, OnOk};
 ghost use Rattle.std.specs.List.{range_with_len};
 ghost use Rattle.phase_plan.specs.Phases as spec;
-ghost use Rattle.phase_plan.specs.Phases.{IsPhase, HasPhases, IsPlanFault, IsRing, IsFirstFault, AreSwitchTimes, AreSwitchTimesFrom, greatest_switch_time, is_free, is_unmarked, is_unmarked_at, passing, phase_at};
+ghost use Rattle.phase_plan.specs.Phases.{IsPhase, IsPlanFault, IsRing, IsFirstFault, AreSwitchTimes, AreSwitchTimesFrom, greatest_switch_time, is_free, is_unmarked, is_unmarked_at, passing, phase_at, stops_between};
 
 use foundation::threads::CrossesThreads;
 use std::alloc::{AllocError, Global};
@@ -70,12 +70,24 @@ pub enum PlanFault {
     Count(u32),
     /// The first phase, from 0, and its first field that is out of bounds.
     Bound { phase: u8, field: Field },
-    /// Fewer than two phases are unmarked; where a ring may be free, exactly one.
+    /// Fewer than two phases are unmarked; where a ring may be free, exactly one; where all but one have to be marked, any other number.
     Skips,
 }
 
-/// Phases that an intersection serves in a ring, 2 to 4 of them, each within its bounds, not exactly
-/// one of them unmarked. Where none is, the ring is free: any phase may follow any other.
+/// How many phases of a ring are marked.
+///
+/// docs/RULES.md, "Phases".
+#[derive(Debug, Clone, Copy, PartialEq, Eq)]
+pub enum Marks {
+    /// Two phases or more are unmarked.
+    Fewer,
+    /// All phases: the ring is free, and any phase may follow any other.
+    All,
+    /// All phases but one, as in a round that recalls one phase of a free ring.
+    AllButOne,
+}
+
+/// Phases that an intersection serves in a ring, 2 to 4 of them, each within its bounds, with any marks.
 /// Contracts see it as the list of its phases. The switch times are kept beside them.
 ///
 /// docs/RULES.md, "Phases".
@@ -105,11 +117,13 @@ impl CrossesThreads for Field {}
 
 impl CrossesThreads for PlanFault {}
 
+impl CrossesThreads for Marks {}
+
 impl CrossesThreads for PhasePlan {}
 
 impl PhasePlan {
     ghost use Rattle.std.specs.Prelude.{◌≡◌, ◌<◌, ◌≤◌, ◌^◌, ◌↔◌, All, IfOk, IfErr, OnErr, IsTrue, length, vec_len};
-    ghost use Rattle.phase_plan.specs.Phases.{IsPlan, IsPlanFault, IsRing, IsRingFault, IsPhase, IsMarkedAt, between, greatest_switch_time, is_free, next_phase, phase_at, switch_time};
+    ghost use Rattle.phase_plan.specs.Phases.{IsOwnRing, IsOwnRingFault, IsPlan, IsPlanFault, IsRing, IsRingFault, IsRingOfOne, IsRingOfOneFault, IsPhase, IsMarkedAt, between, greatest_switch_time, is_free, marks_of, next_phase, passes_all, phase_at, switch_time};
 
     /// The plan of these phases, fewer than 2^32, where there are 2 to 4 of them, each is within its
     /// bounds, and at least two are unmarked.
@@ -142,14 +156,52 @@ impl PhasePlan {
     /// docs/RULES.md, "Phases".
     pub fn new_or_free(phases: Vec<Phase>) -> Result<PhasePlan, PlanFault>
         requires { vec_len phases < 2 ^ 32 }
-        ensures ok { IfOk result (λ plan. (plan ≡ phases.items) × IsRing phases.items) }
-        ensures refused { OnErr result (¬ IsRing phases.items) }
-        ensures first { IfErr result (IsRingFault phases.items) }
+        ensures ok { IfOk result (λ plan. (plan ≡ phases.items) × IsOwnRing phases.items) }
+        ensures refused { OnErr result (¬ IsOwnRing phases.items) }
+        ensures first { IfErr result (IsOwnRingFault phases.items) }
     {
         check_phases(&phases)?;
         if count_unmarked(&phases) == 1 {
             return Err(PlanFault::Skips);
         }
+        Ok(PhasePlan {
+            switch_times: switch_times(&phases),
+            phases,
+        })
+    }
+
+    /// The plan of these phases, as `new` makes it, of which all but one are marked.
+    ///
+    /// The faults are those of `new`, but that a plan is refused for its marks where not exactly one phase
+    /// is unmarked.
+    ///
+    /// docs/RULES.md, "Phases".
+    pub fn new_of_one(phases: Vec<Phase>) -> Result<PhasePlan, PlanFault>
+        requires { vec_len phases < 2 ^ 32 }
+        ensures ok { IfOk result (λ plan. (plan ≡ phases.items) × IsRingOfOne phases.items) }
+        ensures refused { OnErr result (¬ IsRingOfOne phases.items) }
+        ensures first { IfErr result (IsRingOfOneFault phases.items) }
+    {
+        check_phases(&phases)?;
+        if count_unmarked(&phases) != 1 {
+            return Err(PlanFault::Skips);
+        }
+        Ok(PhasePlan {
+            switch_times: switch_times(&phases),
+            phases,
+        })
+    }
+
+    /// The plan of these phases, as `new` makes it, with any marks. The faults are those of `new`, but that none is for the marks.
+    ///
+    /// docs/RULES.md, "Phases".
+    pub fn with_any_marks(phases: Vec<Phase>) -> Result<PhasePlan, PlanFault>
+        requires { vec_len phases < 2 ^ 32 }
+        ensures ok { IfOk result (λ plan. (plan ≡ phases.items) × IsRing phases.items) }
+        ensures refused { OnErr result (¬ IsRing phases.items) }
+        ensures first { IfErr result (IsRingFault phases.items) }
+    {
+        check_phases(&phases)?;
         Ok(PhasePlan {
             switch_times: switch_times(&phases),
             phases,
@@ -193,7 +245,32 @@ impl PhasePlan {
     pub fn is_free(&self) -> bool
         ensures { result ≡ is_free self.now }
     {
-        is_free(&self.phases)
+        count_unmarked(&self.phases) == 0
+    }
+
+    /// How many of the phases are marked.
+    ///
+    /// docs/RULES.md, "Phases".
+    pub fn marks(&self) -> Marks
+        ensures { result ≡ marks_of self.now }
+    {
+        match count_unmarked(&self.phases) {
+            0 => Marks::All,
+            1 => Marks::AllButOne,
+            _ => Marks::Fewer,
+        }
+    }
+
+    /// Whether the ring, on its way from a green of phase `s` to one of phase `j`, is green for all others: `s` is `j`, and no
+    /// other phase is unmarked. Both numbers are below the count of phases.
+    ///
+    /// docs/RULES.md, "Ring and switch time".
+    pub fn passes_all(&self, s: u8, j: u8) -> bool
+        requires from { s < length self.now }
+        requires to { j < length self.now }
+        ensures { result ≡ passes_all self.now s j }
+    {
+        passes_all(&self.phases, s as usize, j as usize)
     }
 
     /// The phase with this number, which is below their count.
@@ -209,7 +286,7 @@ impl PhasePlan {
 
     /// The seconds from the end of a green of phase `s` to the begin of a green of phase `j`, at the
     /// least: the yellow and clear time of `s`, and a least green with its yellow and clear time
-    /// for each unmarked phase between, or, in a free ring from `s` to `s`, for each other phase.
+    /// for each unmarked phase between, or, from `s` to `s` where no other is unmarked, for each other phase.
     /// Both numbers are below the count of phases. At most 440.
     ///
     /// docs/RULES.md, "Ring and switch time".
@@ -239,8 +316,8 @@ impl PhasePlan {
 /// The number of phases, or else the first phase that is out of bounds and the first of its fields that is.
 fn check_phases(phases: &[Phase]) -> Result<(), PlanFault>
     requires { length phases.now < 2 ^ 32 }
-    ensures ok { OnOk result (HasPhases phases.now) }
-    ensures refused { OnErr result (¬ HasPhases phases.now) }
+    ensures ok { OnOk result (IsRing phases.now) }
+    ensures refused { OnErr result (¬ IsRing phases.now) }
     ensures first { IfErr result (IsPlanFault phases.now) }
     ensures only { IfErr result (λ fault. fault ≢ PlanFault.Skips) }
 {
@@ -256,13 +333,6 @@ fn check_phases(phases: &[Phase]) -> Result<(), PlanFault>
         }
     }
     Ok(())
-}
-
-/// Whether no phase is unmarked.
-fn is_free(phases: &[Phase]) -> bool
-    ensures { result ≡ spec.is_free phases.now }
-{
-    count_unmarked(phases) == 0
 }
 
 /// How many phases are unmarked.
@@ -337,11 +407,23 @@ fn switch_time(phases: &[Phase], s: usize, j: usize) -> u32
     leaving.yellow + leaving.clear + passed
 }
 
-/// Whether the ring passes all others on its way from phase `s` to phase `j`.
+/// Whether the ring passes all others on its way from phase `s` to phase `j`: they are one, and no other is unmarked.
 fn passes_all(phases: &[Phase], s: usize, j: usize) -> bool
+    requires { s < length phases.now }
     ensures { result ≡ spec.passes_all phases.now s j }
 {
-    is_free(phases) && s == j
+    s == j && first_other(phases, s).is_none()
+}
+
+/// The first unmarked phase up the ring from phase `s`, another than `s`.
+fn first_other(phases: &[Phase], s: usize) -> Option<usize>
+    requires { s < length phases.now }
+    ensures { result ≡ slice_get (stops_between phases.now (is_unmarked_at phases.now) s s) 0 }
+{
+    match first_unmarked(phases, s + 1, phases.len()) {
+        Some(k) => Some(k),
+        None => first_unmarked(phases, 0, s),
+    }
 }
 
 /// The seconds that the ring takes to pass the phases from `low` up to `high`: the unmarked ones, or all.
@@ -377,10 +459,7 @@ fn next_phase(phases: &[Phase], s: usize) -> usize
     requires { s < length phases.now }
     ensures { result ≡ spec.next_phase phases.now s }
 {
-    match first_unmarked(phases, s + 1, phases.len()) {
-        Some(k) => k,
-        None => first_unmarked(phases, 0, s).unwrap_or(one_up(phases, s)),
-    }
+    first_other(phases, s).unwrap_or(one_up(phases, s))
 }
 
 /// The phase after `s` up the ring.

@@ -14,7 +14,7 @@ home-below : (net : Net) → IsOutline net → (l n : ℕ) → n < length net.no
 home-below net ok l n node inside to =
     let is : (link_at net l).phase ≡ phase_of net.phase_links l (Some n) = ok.phases l inside ∙ ap (phase_of net.phase_links l) to in
     let planned : n < length net.plans = omega (arith, ok.plan_count) in
-    rw is (by (position (has_link l) (phases_at net n)) refl (ok.plans n [] planned).count.0)
+    rw is (by (position (has_link l) (phases_at net n)) refl (ok.plans n [] planned).ring.count.0)
   where
     by : (o : Option ℕ) → position (has_link l) (phases_at net n) ≡ o → 2 ≤ length (plan_at net n) → unwrap_or (position (has_link l) (phases_at net n)) 0 < length (plan_at net n)
     by None is some = rw is (omega arith)
@@ -38,7 +38,7 @@ green-below net ok l k link on = by (link_at net l).to refl (ok.links l no_link 
     by : (o : Option ℕ) → (link_at net l).to ≡ o → IfSome o (λ n. n < length net.node_names) → is_green_to net l k o ≡ true → k < 4
     by None to node on = absurd (false≢true on)
     by (Some n) to node on =
-        let few : length (plan_at net n) ≤ 4 = (ok.plans n [] (omega (arith, ok.plan_count))).count.1 in
+        let few : length (plan_at net n) ≤ 4 = (ok.plans n [] (omega (arith, ok.plan_count))).ring.count.1 in
         elim (cases_Bool (has_link l (also_links_at net n k))) [
           | inl also ↦ omega (arith, also-below net ok l n k node also, few)
           | inr alone ↦

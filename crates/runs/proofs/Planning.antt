@@ -10,7 +10,7 @@ use Rattle.board_model.specs.declared.boards.Heard.{Heard}
 use Rattle.clusters.specs.Inflow.{no_sense, sense_of}
 use Rattle.clusters.specs.Sound.{cluster_lists}
 use Rattle.control_flow.specs.Greens.{IsLawful, end_of, row_at}
-use Rattle.control_flow.specs.Recalls.{lose_all, loses_mark, recalled}
+use Rattle.control_flow.specs.Recalls.{recalled}
 use Rattle.control_flow.specs.Timelines.{AreServings}
 use Rattle.control_flow.specs.declared.greens.Green.{Green}
 use Rattle.control_flow.proofs.RecallLaws.{length-recalled, recalled-at}
@@ -112,8 +112,7 @@ module _ (net : Net) (network : IsNetwork net) (node : ℕ) (below : node < leng
     pub next-free : (recall k : ℕ) → net.run.recall ≡ Some recall → is_recalled net node sensed recall k ≡ true → IsLawful (freed (plan_at net node) k) c.next
     next-free recall k has asked =
         let recalls : ℕ → Bool = is_recalled net node sensed recall in
-        lawful-fewer (plan_at net node) (λ j. j == k) (loses_mark (plan_at net node) recalls)
-        (λ j same. or_left (recalls j) (lose_all (plan_at net node) recalls) (subst (λ (n : ℕ). recalls n ≡ true) (sym (eqb-true j k same)) asked)) c.next
+        lawful-fewer (plan_at net node) (λ j. j == k) recalls (λ j same. subst (λ (n : ℕ). recalls n ≡ true) (sym (eqb-true j k same)) asked) c.next
         (subst (λ (o : Option ℕ). IsLawful (plan_by net node sensed o) c.next) has own.line.lawful)
 
     -- new greens begin within the look ahead, or as early as they can

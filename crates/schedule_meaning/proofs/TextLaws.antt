@@ -1,16 +1,18 @@
-use Rattle.std.proofs.Common.{◌≡◌, ◌≢◌, ℕ, true, false, count_by, refl, ◌+◌, ◌*◌, ◌^◌, ◌<◌, ◌≤◌, Bool, List, [], ◌∷◌, ◌++◌, length, map, sum, sum_by, get_or, All, Result, Ok, Err, IfOk, sym, ap, subst, length-append, zero, suc, arith}
+use Rattle.std.proofs.Common.{◌≡◌, ◌≢◌, ◌==◌, ◌∙◌, ℕ, true, false, cond, count_by, refl, ◌+◌, ◌*◌, ◌^◌, ◌<◌, ◌≤◌, Bool, List, [], ◌∷◌, ◌++◌, length, map, sum, sum_by, get_or, All, Result, Ok, Err, IfOk, sym, ap, subst, length-append, zero, suc, arith}
 use Rattle.std.specs.List.{flat_map, concat, join_with_byte}
 use Rattle.std.specs.Fmt.{decimal}
 use Rattle.std.specs.Prelude.{codes}
 use Rattle.std.proofs.lemmas.List.Concat.{flat_map-cons}
-use Rattle.std.proofs.lemmas.Bool.{eqb-false, ne_eqb}
+use Rattle.std.proofs.lemmas.Bool.{eqb-false, eqb-true, ne_eqb}
 use Rattle.std.proofs.lemmas.List.Sums.{sum-map}
+use Rattle.phase_plan.specs.declared.Marks.{Marks}
+use Rattle.phase_plan.specs.declared.Marks.TheVariants as marked
 use Rattle.phase_plan.specs.declared.Phase.{Phase}
 use Rattle.switch_rules.specs.declared.Head.{Head}
 use Rattle.switch_rules.specs.declared.Cluster.{Cluster}
 use Rattle.instance_form.specs.declared.form.Version.{Version}
-use Rattle.instance_form.specs.InstanceText.{version_of, line, first_line, count_line, phase_line, head_line, cluster_numbers, cluster_line, cluster_lines, form_text, instance_text, whole_text, HasText, IsFreeWhere, IsWritableCluster}
-use Rattle.phase_plan.specs.Phases.{HasU32Times, IsPhase, IsRing, is_free, is_unmarked, no_phase}
+use Rattle.instance_form.specs.InstanceText.{version_of, line, first_line, count_line, phase_line, head_line, cluster_numbers, cluster_line, cluster_lines, form_text, instance_text, whole_text, HasText, IsMarkedWhere, IsWritableCluster}
+use Rattle.phase_plan.specs.Phases.{HasU32Times, IsPhase, IsRing, is_unmarked, marks_of, no_phase}
 use Rattle.switch_rules.specs.Serving.{IsCluster}
 use Rattle.instance_form.specs.Lengths.{most_cluster_bytes, most_other_bytes}
 use Rattle.instance_form.proofs.LengthLaws.{text-le}
@@ -40,32 +42,36 @@ longer-concat (b ∷ before) xs after = omega (arith, length-append b (concat (b
 below : (a b c d n : ℕ) → a ≤ b → b ≤ c → d ≡ c → d < n → a < n
 below a b c d n f g e h = omega arith
 
-pub lists-below-text : (free : Bool) (plan : List Phase) (h : Head) (lists : List (List Cluster)) (bytes : List ℕ) → bytes ≡ whole_text free plan h lists → length bytes < 2 ^ 32 → All (λ list. length list < 2 ^ 32) lists
+pub lists-below-text : (marks : Marks) (plan : List Phase) (h : Head) (lists : List (List Cluster)) (bytes : List ℕ) → bytes ≡ whole_text marks plan h lists → length bytes < 2 ^ 32 → All (λ list. length list < 2 ^ 32) lists
 unfolding whole_text form_text
-lists-below-text free plan h lists bytes e short = λ i d inside.
-    let v = version_of free plan lists in
-    below (length (get_or lists i d)) (length (cluster_lines v 0 lists)) (length (whole_text free plan h lists)) (length bytes) (2 ^ 32) (lists-le-lines v 0 lists i d inside)
+lists-below-text marks plan h lists bytes e short = λ i d inside.
+    let v = version_of marks plan lists in
+    below (length (get_or lists i d)) (length (cluster_lines v 0 lists)) (length (whole_text marks plan h lists)) (length bytes) (2 ^ 32) (lists-le-lines v 0 lists i d inside)
     (longer-concat (first_line v ∷ count_line (length plan) ∷ flat_map (phase_line v) plan ∷ head_line h ∷ []) (cluster_lines v 0 lists) (line (codes "end" ∷ []) ∷ []))
     (ap length e) short
 
--- the ring of a plan is free where it may be, all of its phases being marked
-pub free-is : (free : Bool) (plan : List Phase) → IsFreeWhere free plan → IsPlanWhere free plan → is_free plan ≡ free
-free-is true plan ring law = ring refl
-free-is false plan ring law = ne_eqb (count_by is_unmarked plan) 0 (λ e. omega (arith, law.ring, e))
+-- as many phases of a plan are marked as are said to be
+pub marks-are : (marks : Marks) (plan : List Phase) → IsMarkedWhere marks plan → IsPlanWhere marks plan → marks_of plan ≡ marks
+marks-are marked.All plan ring law = ap (λ (b : Bool). cond b marked.All (cond (count_by is_unmarked plan == 1) marked.AllButOne marked.Fewer)) (ring refl)
+marks-are marked.AllButOne plan ring law = ap (λ (n : ℕ). cond (n == 0) marked.All (cond (n == 1) marked.AllButOne marked.Fewer)) law.marks
+marks-are marked.Fewer plan ring law =
+    ap (λ (b : Bool). cond b marked.All (cond (count_by is_unmarked plan == 1) marked.AllButOne marked.Fewer)) (ne_eqb (count_by is_unmarked plan) 0 (λ e. omega (arith, law.ring, e)))
+    ∙ ap (λ (b : Bool). cond b marked.AllButOne marked.Fewer) (ne_eqb (count_by is_unmarked plan) 1 (λ e. omega (arith, law.ring, e)))
 
--- and the plan of an instance is one where it is free
-pub plan-where : (plan : List Phase) → IsRing plan → IsPlanWhere (is_free plan) plan
-plan-where plan law = by (is_free plan) refl
+-- and the plan of an instance is one with its marks
+pub plan-where : (plan : List Phase) → IsRing plan → IsPlanWhere (marks_of plan) plan
+plan-where plan law = by (count_by is_unmarked plan == 0) (count_by is_unmarked plan == 1) refl refl
   where
-    by : (b : Bool) → is_free plan ≡ b → IsPlanWhere b plan
-    by true e = law
-    by false e =
+    by : (all but_one : Bool) → (count_by is_unmarked plan == 0) ≡ all → (count_by is_unmarked plan == 1) ≡ but_one → IsPlanWhere (cond all marked.All (cond but_one marked.AllButOne marked.Fewer)) plan
+    by true but_one e f = record { ring = law; marks = λ one. omega (arith, eqb-true (count_by is_unmarked plan) 0 e, one) }
+    by false true e f = record { ring = law; marks = eqb-true (count_by is_unmarked plan) 1 f }
+    by false false e f =
         let some : count_by is_unmarked plan ≢ 0 = eqb-false (count_by is_unmarked plan) 0 e in
-        let others : count_by is_unmarked plan ≢ 1 = law.ring in
+        let others : count_by is_unmarked plan ≢ 1 = eqb-false (count_by is_unmarked plan) 1 f in
         record { count = law.count; phases = law.phases; ring = omega arith }
 
-pub form-plan : (free : Bool) (plan : List Phase) (p : Problem) → free ≡ is_free p.plan → plan ≡ p.plan → IsInstance p → IsPlanWhere free plan
-form-plan free plan p ring same law = subst (λ (b : Bool). IsPlanWhere b plan) (sym ring) (subst (IsPlanWhere (is_free p.plan)) (sym same) (plan-where p.plan law.plan))
+pub form-plan : (marks : Marks) (plan : List Phase) (p : Problem) → marks ≡ marks_of p.plan → plan ≡ p.plan → IsInstance p → IsPlanWhere marks plan
+form-plan marks plan p said same law = subst (λ (m : Marks). IsPlanWhere m plan) (sym said) (subst (IsPlanWhere (marks_of p.plan)) (sym same) (plan-where p.plan law.plan))
 
 -- an instance has a text
 
@@ -94,7 +100,7 @@ has-text p h = record {
 -- the text of an instance has fewer than 2^32 bytes
 short-text : (bytes : List ℕ) (p : Problem) → IsInstanceText bytes p → sum (counts_of p.lists) ≤ 40 → length bytes < 2 ^ 32
 short-text bytes p is_text few =
-    fits (length bytes) (length (instance_text p.plan p.head p.lists)) (sum_by (λ list. length list) p.lists) (sum (counts_of p.lists)) (ap length is_text.1) (text-le (is_free p.plan) p.plan p.head p.lists is_text.0) (sum-map length p.lists) few
+    fits (length bytes) (length (instance_text p.plan p.head p.lists)) (sum_by (λ list. length list) p.lists) (sum (counts_of p.lists)) (ap length is_text.1) (text-le (marks_of p.plan) p.plan p.head p.lists is_text.0) (sum-map length p.lists) few
   where
     fits : (n m c s : ℕ) → n ≡ m → m ≤ most_cluster_bytes * c + most_other_bytes → s ≡ c → s ≤ 40 → n < 2 ^ 32
     fits n m c s e f g h = omega arith

@@ -8,7 +8,7 @@ use super::faults::InstanceFault;
 use super::instances::Instance;
 use foundation::threads::CrossesThreads;
 use instance_form::{FormFault, read_form, write_form};
-use phase_plan::{Phase, PhasePlan, PlanFault};
+use phase_plan::{Marks, Phase, PhasePlan, PlanFault};
 use std::alloc::{AllocError, Global};
 
 /// Why a text is no instance's.
@@ -57,7 +57,7 @@ pub fn read_instance(alloc: Global, bytes: &[u8]) -> Result<Instance, TextFault>
     ensures first { IfErr result (IsTextFault bytes.now) }
 {
     let form = read_form(alloc, bytes)?;
-    let plan = match plan_where(form.free_ring, form.phases) {
+    let plan = match plan_where(form.marks, form.phases) {
         Ok(plan) => plan,
         Err(fault) => return Err(TextFault::Plan(fault)),
     };
@@ -67,21 +67,22 @@ pub fn read_instance(alloc: Global, bytes: &[u8]) -> Result<Instance, TextFault>
     }
 }
 
-/// The plan of these phases, of which there are fewer than 2^32. Its ring may be free where `free_ring` says so.
+/// The plan of these phases, fewer than 2^32, of which so many are said to be marked.
 ///
-/// The faults are those of `PhasePlan::new_or_free` there, and else those of `PhasePlan::new`.
+/// The faults are those of `PhasePlan::new`; where all are said to be marked, those of `new_or_free`; where all but one are, those of
+/// `new_of_one`.
 ///
 /// docs/RULES.md, "Phases".
-pub fn plan_where(free_ring: bool, phases: Vec<Phase>) -> Result<PhasePlan, PlanFault>
+pub fn plan_where(marks: Marks, phases: Vec<Phase>) -> Result<PhasePlan, PlanFault>
     requires { vec_len phases < 2 ^ 32 }
-    ensures ok { IfOk result (λ plan. (plan ≡ phases.items) × IsPlanWhere free_ring phases.items) }
-    ensures refused { OnErr result (¬ IsPlanWhere free_ring phases.items) }
-    ensures first { IfErr result (IsPlanFaultWhere free_ring phases.items) }
+    ensures ok { IfOk result (λ plan. (plan ≡ phases.items) × IsPlanWhere marks phases.items) }
+    ensures refused { OnErr result (¬ IsPlanWhere marks phases.items) }
+    ensures first { IfErr result (IsPlanFaultWhere marks phases.items) }
 {
-    if free_ring {
-        PhasePlan::new_or_free(phases)
-    } else {
-        PhasePlan::new(phases)
+    match marks {
+        Marks::Fewer => PhasePlan::new(phases),
+        Marks::All => PhasePlan::new_or_free(phases),
+        Marks::AllButOne => PhasePlan::new_of_one(phases),
     }
 }
 
@@ -96,5 +97,5 @@ pub fn write_instance(alloc: Global, i: &Instance) -> Result<Vec<u8>, AllocError
     ensures short { IfOk result (λ text. length text.items < 2 ^ 32) }
 {
     let plan = i.plan();
-    write_form(alloc, plan.is_free(), plan.phases(), &i.head(), i.lists())
+    write_form(alloc, plan.marks(), plan.phases(), &i.head(), i.lists())
 }

@@ -16,14 +16,14 @@ use Rattle.net_parts.specs.Numbers.{Net, no_link}
 use Rattle.net_parts.specs.Outline.{IsLink, cross_at, is_green_in, link_at, plan_at, walk_at}
 use Rattle.net_parts.specs.declared.roads.Link.{Link}
 use Rattle.net_parts.specs.declared.roads.Walk.{Walk}
-use Rattle.phase_plan.specs.Phases.{IsRing, phase_at}
+use Rattle.phase_plan.specs.Phases.{IsOwnRing, IsRing, phase_at}
 use Rattle.phase_plan.specs.declared.Phase.{Phase}
 use Rattle.road_net.specs.Joins.{AreNeverBoth, HasLongGreens, IsConflict}
 use Rattle.road_net.specs.Network.{IsNetwork}
 use Rattle.signal_safety.specs.Safe.{AreSafe, BeginsAfter, IsSafe, clearance_after, clearance_at, is_green_at}
 
 pub plan-is : (net : Net) → IsNetwork net → (node : ℕ) → node < length net.node_names → IsRing (plan_at net node)
-plan-is net network node below = All-get_or IsRing net.plans node [] (let e = network.outline.plan_count in omega arith) network.outline.plans
+plan-is net network node below = (All-get_or IsOwnRing net.plans node [] (let e = network.outline.plan_count in omega arith) network.outline.plans).ring
 
 -- a change is no green with a walk
 change-closed : (green : ℕ → Bool) (walk x : ℕ) (before : Option ℕ) (j : ℕ) → is_on_in green (Some walk) x (change_from before j) ≡ false

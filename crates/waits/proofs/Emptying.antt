@@ -3,7 +3,7 @@ use Rattle.std.proofs.Common.{◌≡◌, ℕ, zero, suc, ◌+◌, ◌-◌, ◌*�
 use Rattle.std.proofs.lemmas.Bool.{cases_lt}
 use Rattle.std.proofs.lemmas.List.Elements.{All-get_or}
 use Rattle.std.proofs.lemmas.Option.{same_Some}
-use Rattle.phase_plan.specs.Phases.{IsRing, is_unmarked_at, phase_at}
+use Rattle.phase_plan.specs.Phases.{IsOwnRing, IsRing, is_unmarked_at, phase_at}
 use Rattle.phase_plan.specs.declared.Phase.{Phase}
 use Rattle.control_flow.specs.Greens.{IsGreen, IsLawful, end_of, green_at, row_at}
 use Rattle.control_flow.specs.declared.greens.Green.{Green}
@@ -154,7 +154,7 @@ emptying-law net network arriving lines intergreen l node now n turns inside end
     let link : IsLink (length net.node_names) (link_at net l) = All-get_or (IsLink (length net.node_names)) net.links l no_link (let f = network.outline.road_count in omega (arith, f, inside)) network.outline.links in
     let there : node < length net.node_names = subst (λ (o : Option ℕ). IfSome o (λ n. n < length net.node_names)) ends link.to in
     let plan = plan_at net node in
-    let p : IsRing plan = All-get_or IsRing net.plans node [] (let e = network.outline.plan_count in omega (arith, e, there)) network.outline.plans in
+    let p : IsRing plan = (All-get_or IsOwnRing net.plans node [] (let e = network.outline.plan_count in omega (arith, e, there)) network.outline.plans).ring in
     let k = (link_at net l).phase in
     let below : k < length plan = ((served net network.outline network.joins).entries l node inside ends).0 in
     let most = longest_way plan intergreen k k in

@@ -9,7 +9,7 @@ use Rattle.std.proofs.lemmas.List.FromFn.{get_or-range_with_len, length-range_wi
 use Rattle.std.proofs.lemmas.Nat.{mod_below}
 use Rattle.std.proofs.lemmas.Option.{none-some, same_Some}
 use Rattle.std.proofs.Math.Nat.{mul-le-mul_right}
-use Rattle.phase_plan.specs.Phases.{IsRing, between, is_unmarked_at, no_phase, phase_at}
+use Rattle.phase_plan.specs.Phases.{IsOwnRing, IsRing, between, is_unmarked_at, no_phase, phase_at}
 use Rattle.phase_plan.specs.declared.Phase.{Phase}
 use Rattle.control_flow.specs.Greens.{IsGreen, IsLawful, end_of, row_after, row_at}
 use Rattle.control_flow.specs.Recalls.{without_marks}
@@ -186,7 +186,7 @@ module _ (net : Net) (network : IsNetwork net) (arriving : ℕ → ℕ → ℕ) 
   there = subst (λ (o : Option ℕ). IfSome o (λ n. n < length net.node_names)) ends link-is.to
 
   plan-is : IsRing plan
-  plan-is = All-get_or IsRing net.plans node [] (let e = network.outline.plan_count in omega (arith, e, there)) network.outline.plans
+  plan-is = (All-get_or IsOwnRing net.plans node [] (let e = network.outline.plan_count in omega (arith, e, there)) network.outline.plans).ring
 
   below : k < length plan
   below = (network.served.entries l node inside ends).0

@@ -2,7 +2,7 @@
 use Rattle.std.proofs.Common.{◌≡◌, ℕ, zero, suc, ◌+◌, ◌-◌, ◌<◌, ◌≤◌, min, Bool, true, false, cond, ltb, not, ◌&&◌, ◌||◌, List, [], ◌∷◌, length, IfSome, Option, Some, None, refl, sym, ap, subst, ◌∙◌, inl, inr, arith}
 use Rattle.std.proofs.lemmas.Bool.{and_from, and_left, cases_lt, cond_both, eq-eqb, le-ltb, lt-ltb, ltb-true}
 use Rattle.std.proofs.lemmas.List.Elements.{All-get_or}
-use Rattle.phase_plan.specs.Phases.{IsRing, is_unmarked_at, phase_at}
+use Rattle.phase_plan.specs.Phases.{IsOwnRing, IsRing, is_unmarked_at, phase_at}
 use Rattle.control_flow.specs.Greens.{IsLawful, end_of, row_at}
 use Rattle.control_flow.specs.declared.greens.Green.{Green}
 use Rattle.control_flow.specs.declared.greens.Sign.{Sign}
@@ -202,7 +202,7 @@ waiting-law net network arriving lines intergreen l node now n inside ends plain
     let link : IsLink (length net.node_names) (link_at net l) = All-get_or (IsLink (length net.node_names)) net.links l no_link (let f = network.outline.road_count in omega (arith, f, inside)) network.outline.links in
     let there : node < length net.node_names = subst (λ (o : Option ℕ). IfSome o (λ n. n < length net.node_names)) ends link.to in
     let plan = plan_at net node in
-    let p : IsRing plan = All-get_or IsRing net.plans node [] (let e = network.outline.plan_count in omega (arith, e, there)) network.outline.plans in
+    let p : IsRing plan = (All-get_or IsOwnRing net.plans node [] (let e = network.outline.plan_count in omega (arith, e, there)) network.outline.plans).ring in
     let k = (link_at net l).phase in
     let below : k < length plan = ((served net network.outline network.joins).entries l node inside ends).0 in
     let most = longest_way plan intergreen k k in

@@ -84,7 +84,7 @@ def instance_fault(file: str, code: list[str], is_certificate: bool) -> list[str
             return line_fault(text, int(line), is_certificate)
         case ["plan", "skips"]:
             marks = sum(text.fields(text.phase_line(phase))[-1] == "skip" for phase in range(text.phases))
-            words = f"{marks} of the {text.phases} phases are marked `skip`, and at least two have to be `ring`"
+            words = f"{marks} of the {text.phases} phases are marked `skip`, and {wanted_rings(text)} to be `ring`"
             free = "; with all of them `skip` and any phase after any other it is a text of version 4"
             return [text.say(text.phase_line(0), words + (free if marks == text.phases else ""))]
         case ["plan", phase, time]:
@@ -222,6 +222,11 @@ def line_fault(text: InstanceFile, line: int, is_certificate: bool) -> list[str]
     return [text.say(line, f"{quote(found)}: {wanted} is wanted here{why}")]
 
 
+def wanted_rings(text: InstanceFile) -> str:
+    """How many phases of a text of its version are unmarked."""
+    return "exactly one has" if text.version == 5 else "at least two have"
+
+
 def cut_short(text: InstanceFile, line: int, is_certificate: bool) -> list[str]:
     """A text that stops before its last line, or whose last line has no line feed."""
     if not text.text:
@@ -242,7 +247,7 @@ def wanted_at(text: InstanceFile, line: int, is_certificate: bool) -> str | None
         return "`certificate 1`"
     place = line - (1 if is_certificate else 0)
     if place == 1:
-        return "`instance V` with V = 1, 2, 3 or 4"
+        return "`instance V` with V = 1, 2, 3, 4 or 5"
     if place == 2:
         return "`phases P` with P = 2, 3 or 4"
     if place <= 2 + text.phases:
@@ -303,7 +308,7 @@ def why_not_here(text: InstanceFile, line: int) -> str:
     if fields[0] == "phase" and fields[-1] == "ring" and text.version == 2:
         return ": a text of version 2 has a phase with `skip`; without any it is of version 1, and has no `ring`"
     if fields[0] == "phase" and fields[-1] == "ring" and text.version == 4:
-        return ": in a text of version 4 each phase is marked `skip`; with a `ring` it is of version 2 or 3"
+        return ": in a text of version 4 each phase is marked `skip`; with one `ring` it is of version 5, with more of 2 or 3"
     if fields == ["end"] and text.version == 3:
         return ": a text of version 3 has a cluster whose LOAD is not its SIZE; without any it is of version 1 or 2, and has no LOAD"
     if fields[0] == "cluster" and fields[1].isdigit() and int(fields[1]) >= text.phases:

@@ -7,5 +7,5 @@ use Rattle.certificate_form.proofs.reading.read_certificate.Goals as goal
 pub new-requires : goal.new-requires
 new-requires c =
     let form = c.in_ok-form.field-0.form in
-    lists-below-text form.free_ring form.phases.items form.head form.lists.items _ refl
-    (text_below form.free_ring c.args.bytes.now (claim_of_lines c.in_ok-form.field-0) 4294967296 c.in_ok-form.ensures.ok.text c.requires)
+    lists-below-text form.marks form.phases.items form.head form.lists.items _ refl
+    (text_below form.marks c.args.bytes.now (claim_of_lines c.in_ok-form.field-0) 4294967296 c.in_ok-form.ensures.ok.text c.requires)

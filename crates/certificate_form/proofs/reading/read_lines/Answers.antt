@@ -16,7 +16,7 @@ no_first c rest e =
     rw none at (c.literal.ensures.only rest e)
 
 pub returns-in_err-rest-clause-only : goal.returns-in_err-rest-clause-only
-returns-in_err-rest-clause-only c = λ free claim form. absurd (no_opening free c.args.bytes.now claim (no_first (goal.at.returns-in_err-rest-clause-only c).In_err-rest) form.text)
+returns-in_err-rest-clause-only c = λ marks claim form. absurd (no_opening marks c.args.bytes.now claim (no_first (goal.at.returns-in_err-rest-clause-only c).In_err-rest) form.text)
 
 pub returns-in_err-rest-clause-first : goal.returns-in_err-rest-clause-first
 returns-in_err-rest-clause-first c =
@@ -32,11 +32,11 @@ opened c =
     rw some at c.literal.ensures.some
 
 pub returns-in_err-form-clause-only : goal.returns-in_err-form-clause-only
-returns-in_err-form-clause-only c = λ free claim form.
+returns-in_err-form-clause-only c = λ marks claim form.
     let p = err_from_is_err_and c.from_residual-in_err-form.result c.from_residual-in_err-form.ensures.1 in
     let a = claim.problem in
-    rw (p.1, p.2) (c.in_err-form.ensures.only free a.plan a.head a.lists (tail_text (length a.plan) claim.answer claim.entries) form.fits.instance form.ring
-    (behind_opening free c.args.bytes.now c.in_ok-rest.rest.now claim (opened (goal.at.returns-in_err-form-clause-only c).In_ok-rest) form.text))
+    rw (p.1, p.2) (c.in_err-form.ensures.only marks a.plan a.head a.lists (tail_text (length a.plan) claim.answer claim.entries) form.fits.instance form.ring
+    (behind_opening marks c.args.bytes.now c.in_ok-rest.rest.now claim (opened (goal.at.returns-in_err-form-clause-only c).In_ok-rest) form.text))
 
 pub returns-in_err-form-clause-first : goal.returns-in_err-form-clause-first
 returns-in_err-form-clause-first c =
@@ -48,23 +48,23 @@ problem_of : In_ok-form → Problem
 problem_of c = record { plan = c.in_ok-form.form.phases.items; head = c.in_ok-form.form.head; lists = c.in_ok-form.form.lists.items }
 
 -- and what stands after them
-spelled : (c : In_ok-form) → c.args.bytes.now ≡ front_text c.in_ok-form.form.free_ring (problem_of c) ++ c.in_ok-form.rest.now
+spelled : (c : In_ok-form) → c.args.bytes.now ≡ front_text c.in_ok-form.form.marks (problem_of c) ++ c.in_ok-form.rest.now
 unfolding problem_of
-spelled c = whole c.in_ok-form.form.free_ring (problem_of c) c.args.bytes.now c.in_ok-rest.rest.now c.in_ok-form.rest.now (opened (goal.at.In_ok-form c).In_ok-rest) c.in_ok-form.ensures.ok.1
+spelled c = whole c.in_ok-form.form.marks (problem_of c) c.args.bytes.now c.in_ok-rest.rest.now c.in_ok-form.rest.now (opened (goal.at.In_ok-form c).In_ok-rest) c.in_ok-form.ensures.ok.1
 
 pub tail-requires-clause-room : goal.tail-requires-clause-room
 unfolding problem_of
 tail-requires-clause-room c =
-    room c.in_ok-form.form.free_ring (problem_of (goal.at.tail-requires-clause-room c).In_ok-form) c.args.bytes.now c.in_ok-rest.rest.now c.in_ok-form.rest.now c.in_ok-form.line 4294967296 c.in_ok-form.ensures.ok.0.fits c.in_ok-form.ensures.ok.0.ring
+    room c.in_ok-form.form.marks (problem_of (goal.at.tail-requires-clause-room c).In_ok-form) c.args.bytes.now c.in_ok-rest.rest.now c.in_ok-form.rest.now c.in_ok-form.line 4294967296 c.in_ok-form.ensures.ok.0.fits c.in_ok-form.ensures.ok.0.ring
     (opened (goal.at.tail-requires-clause-room c).In_ok-rest) c.in_ok-form.ensures.ok.1 c.in_ok-form.ensures.next c.requires
 
 pub returns-in_err-answer-clause-only : goal.returns-in_err-answer-clause-only
 unfolding problem_of
-returns-in_err-answer-clause-only c = λ free claim form.
+returns-in_err-answer-clause-only c = λ marks claim form.
     let d = (goal.at.returns-in_err-answer-clause-only c).In_ok-form in
     let p = err_from_is_err_and c.from_residual-in_err-answer.result c.from_residual-in_err-answer.ensures.1 in
     let phases : c.len-phases.result ≡ length c.in_ok-form.form.phases.items = omega (arith, c.len-phases.ensures, c.in_ok-form.form.phases.ok.0) in
-    rw (p.1, p.2) (fails_only c.in_ok-form.form.free_ring (problem_of d) c.in_ok-form.ensures.ok.0.fits c.in_ok-form.ensures.ok.0.ring c.args.bytes.now c.in_ok-form.rest.now c.in_ok-form.line (spelled d) c.in_ok-form.ensures.next c.in_err-answer.field-0.0 (rw phases at c.in_err-answer.ensures.exact) free claim form)
+    rw (p.1, p.2) (fails_only c.in_ok-form.form.marks (problem_of d) c.in_ok-form.ensures.ok.0.fits c.in_ok-form.ensures.ok.0.ring c.args.bytes.now c.in_ok-form.rest.now c.in_ok-form.line (spelled d) c.in_ok-form.ensures.next c.in_err-answer.field-0.0 (rw phases at c.in_err-answer.ensures.exact) marks claim form)
 
 pub returns-in_err-answer-clause-first : goal.returns-in_err-answer-clause-first
 unfolding problem_of
@@ -72,18 +72,18 @@ returns-in_err-answer-clause-first c =
     let d = (goal.at.returns-in_err-answer-clause-first c).In_ok-form in
     let p = err_from_is_err_and c.from_residual-in_err-answer.result c.from_residual-in_err-answer.ensures.1 in
     let phases : c.len-phases.result ≡ length c.in_ok-form.form.phases.items = omega (arith, c.len-phases.ensures, c.in_ok-form.form.phases.ok.0) in
-    rw (p.1, p.2) (fails_line c.in_ok-form.form.free_ring (problem_of d) c.in_ok-form.ensures.ok.0.fits c.in_ok-form.ensures.ok.0.ring c.args.bytes.now c.in_ok-form.rest.now c.in_ok-form.line (spelled d) c.in_ok-form.ensures.next c.in_err-answer.field-0.0 (rw phases at c.in_err-answer.ensures.exact))
+    rw (p.1, p.2) (fails_line c.in_ok-form.form.marks (problem_of d) c.in_ok-form.ensures.ok.0.fits c.in_ok-form.ensures.ok.0.ring c.args.bytes.now c.in_ok-form.rest.now c.in_ok-form.line (spelled d) c.in_ok-form.ensures.next c.in_err-answer.field-0.0 (rw phases at c.in_err-answer.ensures.exact))
 
 pub returns-clause-ok : goal.returns-clause-ok
 unfolding problem_of
 returns-clause-ok c =
     let d = (goal.at.returns-clause-ok c).In_ok-form in
     let phases : c.len-phases.result ≡ length c.in_ok-form.form.phases.items = omega (arith, c.len-phases.ensures, c.in_ok-form.form.phases.ok.0) in
-    read_form c.in_ok-form.form.free_ring (problem_of d) c.in_ok-form.ensures.ok.0.fits c.in_ok-form.ensures.ok.0.ring c.args.bytes.now c.in_ok-form.rest.now c.in_ok-form.line (spelled d) c.in_ok-form.ensures.next c.in_ok-answer.answer c.in_ok-answer.entries.items (rw phases at c.in_ok-answer.ensures.exact)
+    read_form c.in_ok-form.form.marks (problem_of d) c.in_ok-form.ensures.ok.0.fits c.in_ok-form.ensures.ok.0.ring c.args.bytes.now c.in_ok-form.rest.now c.in_ok-form.line (spelled d) c.in_ok-form.ensures.next c.in_ok-answer.answer c.in_ok-answer.entries.items (rw phases at c.in_ok-answer.ensures.exact)
 
 pub returns-clause-only : goal.returns-clause-only
 unfolding problem_of
-returns-clause-only c = λ free claim form.
+returns-clause-only c = λ marks claim form.
     let d = (goal.at.returns-clause-only c).In_ok-form in
     let phases : c.len-phases.result ≡ length c.in_ok-form.form.phases.items = omega (arith, c.len-phases.ensures, c.in_ok-form.form.phases.ok.0) in
-    read_only c.in_ok-form.form.free_ring (problem_of d) c.in_ok-form.ensures.ok.0.fits c.in_ok-form.ensures.ok.0.ring c.args.bytes.now c.in_ok-form.rest.now c.in_ok-form.line (spelled d) c.in_ok-form.ensures.next c.in_ok-answer.answer c.in_ok-answer.entries.items (rw phases at c.in_ok-answer.ensures.exact) free claim form
+    read_only c.in_ok-form.form.marks (problem_of d) c.in_ok-form.ensures.ok.0.fits c.in_ok-form.ensures.ok.0.ring c.args.bytes.now c.in_ok-form.rest.now c.in_ok-form.line (spelled d) c.in_ok-form.ensures.next c.in_ok-answer.answer c.in_ok-answer.entries.items (rw phases at c.in_ok-answer.ensures.exact) marks claim form
