@@ -199,6 +199,11 @@ class PagesTest(unittest.TestCase):
                 if isinstance(target, definitions.Key) and f"pub use {path}" not in text:
                     self.assertIn(target, cited, f"{file.crate}/{file.name} cites it nowhere")
 
+    def test_width(self):
+        """Lines of definitions are at most 120 columns wide, but for those that bring names in and for comments."""
+        lines = [(path, line) for path in ROOT.glob("crates/*/specs/**/*.antt") for line in path.read_text(encoding="utf-8").splitlines()]
+        self.assertEqual([pair for pair in lines if len(pair[1]) > 120 and not re.match(r"(pub )?use |\s*--", pair[1])], [])
+
     def test_call(self):
         tool = [sys.executable, ROOT / "tools" / "definitions.py"]
         for words, status in ((["NeverOlder"], 0), (["IsLawful"], 2)):
