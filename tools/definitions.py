@@ -185,11 +185,14 @@ def read_in(definition):
     text = "\n".join([*definition.modules, *lines])
     for names in re.findall(r"[({]([\w ]+?) : ", text) + re.findall(r"λ ([\w ]+)\.", text) + re.findall(r"let (\w+) |(?m:^ *)(\w+) ← ", text):
         bound |= set(" ".join(names).split() if isinstance(names, tuple) else names.split())
+    # A field is bound after its own lines.
+    field = definition.key.name
     for line in re.sub(r"(?<=[{;])\s*\w+ = ", " ", text).split("\n"):
         label = re.match(r"\s+(?:pub )?(\S+) : (.*)", line) if head["kind"] else None
-        yield from ((chunk, chunk.split(".")[0] in bound) for chunk in chunks_of(label[2] if label else line))
         if label:
-            bound.add(label[1])
+            bound.add(field)
+            field = label[1]
+        yield from ((chunk, chunk.split(".")[0] in bound) for chunk in chunks_of(label[2] if label else line))
 
 
 def parts_of_operator(name):
