@@ -27,7 +27,7 @@ from .progress import Progress
 from .records import plural
 from .series import CONTROLLERS, Series, delay_each, totals_under
 
-RECALL = 60
+RECALL, FREE_RECALL = 60, 90
 # The values of each key of [run] that are tried, in this order; None leaves it out
 VALUES: dict[str, tuple[Any, ...]] = {
     "split": (True, False), "age": (20, 40, None), "hold": (2, 4, None), "rate": (600, None), "step": (2, 5), "gap": (0, 2),
@@ -80,7 +80,7 @@ def with_free_rings(network: Network) -> Network | None:
         replace(node, phases=tuple(replace(phase, skip=True) for phase in node.phases)) if len(node.phases) > 2 else node
         for node in network.nodes
     )
-    return replace(network, version=3, nodes=nodes, run=replace(network.run, recall=network.run.recall or RECALL))
+    return replace(network, version=3, nodes=nodes, run=replace(network.run, recall=network.run.recall or FREE_RECALL))
 
 
 def with_recall(network: Network) -> Network | None:
@@ -95,7 +95,7 @@ def changes() -> Iterator[Change]:
     for key, values in VALUES.items():
         yield from (with_key(key, value) for value in values)
     yield Change("step = 2, hold = 4, gap = 0", with_short_steps)
-    yield Change(f"free rings, recall = {RECALL}", with_free_rings)
+    yield Change(f"free rings, recall = {FREE_RECALL}", with_free_rings)
 
 
 @dataclass
